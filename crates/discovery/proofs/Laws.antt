@@ -1,0 +1,83 @@
+-- Laws of universe lists: their numbers one by one, their neighbours' checks one by one, their bytes. Assumes nothing.
+use Prim.Native.Nat.{ℕ, zero, suc, _+_, _*_, _≤_, _<_}
+use mathlib.Core.Path.{_≡_, refl, ap, _∙_}
+use mathlib.Core.List.{List, [], _∷_, _++_}
+use native.Mathlib.Omega.{arith}
+use native.Mathlib.Numerals.{add-one}
+use lib.ListN.{length, take, drop, getD, drop-of-length-le}
+use lib.Seq.{sets, take-suc, length-take-le}
+use Rattle.wire.specs.Fields.{u16At, be16}
+use Rattle.wire.proofs.Laws.{u16-drop, drop-more, sets-append}
+use Rattle.refusal.specs.Check.{Check, check, refusal, universeList, _≤?_, reading, checkedOf}
+use Rattle.refusal.specs.declared.Checked.the-variants.{Passed, Refused}
+use Rattle.refusal.proofs.Laws.{All, Stops, refusalAt, all-hold, first-fails, reading-++}
+use Rattle.discovery.specs.Universes.{universes, pairs, pairsFrom, ascends, listChecks, universeBytes}
+
+pub universes-length : (n : ℕ) (p : List ℕ) → length (universes n p) ≡ n
+unfolding universes
+universes-length zero p = refl
+universes-length (suc n) p = ap suc (universes-length n (drop 2 p))
+
+pub universes-at : (n : ℕ) (p : List ℕ) (i : ℕ) → i < n → getD (universes n p) i 0 ≡ u16At p (2 * i)
+unfolding universes
+universes-at zero p i h = absurd (omega arith)
+universes-at (suc n) p zero h = refl
+universes-at (suc n) p (suc i) h =
+    universes-at n (drop 2 p) i (omega arith) ∙ u16-drop 2 p (2 * i) ∙ ap (u16At p) (omega arith)
+
+-- The checks of neighbours: the first list element has none, each later one those with the one before it.
+module _ (f : ℕ → ℕ → List Check) where
+  pub pairs-none : (us : List ℕ) → length us ≡ 0 → pairs f us ≡ []
+  pairs-none [] h = refl
+  pairs-none (u ∷ us) h = absurd (omega arith)
+
+  pub pairs-first : (us : List ℕ) → (length us ≡ 0 → ⊥) → pairs f us ≡ pairsFrom f (getD us 0 0) (drop 1 us)
+  pairs-first [] h = absurd (h refl)
+  pairs-first (u ∷ us) h = refl
+
+  module _ (us : List ℕ) (u i : ℕ) where
+    pairs-more : i < length us →
+        checkedOf (pairsFrom f u (drop i us))
+        ≡ reading Refused (f u (getD us i 0)) (checkedOf (pairsFrom f (getD us i 0) (drop (i + 1) us)))
+    unfolding checkedOf
+    pairs-more h = rw (drop-more us i h) (reading-++ Refused (f u (getD us i 0)) (pairsFrom f (getD us i 0) (drop (i + 1) us)) Passed)
+
+    -- two neighbours whose checks hold; two of which check k fails; no more neighbours
+    pub pair-holds : i < length us → All (f u (getD us i 0)) →
+        checkedOf (pairsFrom f u (drop i us)) ≡ checkedOf (pairsFrom f (getD us i 0) (drop (i + 1) us))
+    pair-holds h a = pairs-more h ∙ all-hold Refused (f u (getD us i 0)) _ a
+
+    pub pair-fails : (k : ℕ) → i < length us → Stops k (f u (getD us i 0)) →
+        checkedOf (pairsFrom f u (drop i us)) ≡ Refused (refusalAt k (f u (getD us i 0)))
+    pair-fails k h s = pairs-more h ∙ first-fails Refused k (f u (getD us i 0)) _ s
+
+    pub pairs-end : length us ≤ i → checkedOf (pairsFrom f u (drop i us)) ≡ Passed
+    unfolding checkedOf reading
+    pairs-end h = rw (drop-of-length-le us h)
+
+-- A list whose part holds it is refused by its order alone.
+pub listed : (p : List ℕ) (n : ℕ) → 2 * n ≤ length p → checkedOf (listChecks p n) ≡ checkedOf (pairs ascends (universes n p))
+unfolding checkedOf
+listed p n h =
+    reading-++ Refused (check (2 * n ≤? length p) (refusal 1 universeList 0) ∷ []) (pairs ascends (universes n p)) Passed
+    ∙ all-hold Refused (check (2 * n ≤? length p) (refusal 1 universeList 0) ∷ []) _ (h, tt)
+
+-- The bytes of universes.
+bytes-++ : (us vs : List ℕ) → universeBytes (us ++ vs) ≡ universeBytes us ++ universeBytes vs
+unfolding universeBytes
+bytes-++ [] vs = refl
+bytes-++ (u ∷ us) vs = rw (bytes-++ us vs)
+
+pub bytes-length : (us : List ℕ) → length (universeBytes us) ≡ 2 * length us
+unfolding universeBytes
+bytes-length [] = refl
+bytes-length (u ∷ us) = omega (arith, bytes-length us)
+
+pub bytes-more : (us l : List ℕ) (at i : ℕ) → i < length us →
+    sets l at (universeBytes (take (i + 1) us)) ≡ sets (sets l at (universeBytes (take i us))) (at + 2 * i) (be16 (getD us i 0))
+unfolding universeBytes
+bytes-more us l at i h =
+    let k : i ≤ length us = omega arith in
+    let n : length (universeBytes (take i us)) ≡ 2 * i = bytes-length (take i us) ∙ rw length-take-le in
+    rw (add-one, take-suc us i 0, bytes-++ (take i us) (getD us i 0 ∷ []))
+    (sets-append (universeBytes (take i us)) (be16 (getD us i 0)) l at ∙ rw n)

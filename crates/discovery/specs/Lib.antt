@@ -1,0 +1,2 @@
+pub mod Universes
+pub mod Layer

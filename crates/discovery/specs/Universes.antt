@@ -1,0 +1,43 @@
+-- A list of universes: its numbers, their order at reading and at writing, its bytes.
+use Prim.Native.Nat.{ℕ, zero, suc, _+_, _*_, _/_}
+use mathlib.Core.List.{List, [], _∷_, _++_}
+use lib.ListN.{length, drop}
+use Rattle.wire.specs.Fields.{u16At, be16}
+use Rattle.refusal.specs.Check.{Check, check, refusal, universeList, nowhere, _≤?_, _≠?_}
+
+-- the first n numbers of two bytes
+unfoldable pub universes : ℕ → List ℕ → List ℕ
+universes zero p = []
+universes (suc n) p = u16At p 0 ∷ universes n (drop 2 p)
+
+-- as many as there are; an odd last byte is ignored
+abbrev pub allUniverses : List ℕ → List ℕ
+allUniverses p = universes (length p / 2) p
+
+-- the checks of each two neighbours, in turn: u stands before the list
+abbrev pub pairsFrom : (ℕ → ℕ → List Check) → ℕ → List ℕ → List Check
+pairsFrom f u [] = []
+pairsFrom f u (v ∷ vs) = f u v ++ pairsFrom f v vs
+
+abbrev pub pairs : (ℕ → ℕ → List Check) → List ℕ → List Check
+pairs f [] = []
+pairs f (u ∷ us) = pairsFrom f u us
+
+-- at reading, 12: a universe that is not above the one before it
+abbrev pub ascends : ℕ → ℕ → List Check
+ascends u v = check (u + 1 ≤? v) (refusal 12 universeList v) ∷ []
+
+-- 1 if the part is shorter than its count needs; 12
+abbrev pub listChecks : List ℕ → ℕ → List Check
+listChecks p count = check (2 * count ≤? length p) (refusal 1 universeList 0) ∷ pairs ascends (universes count p)
+
+-- at writing, 25: equal neighbours; 26: falling ones
+abbrev pub rises : ℕ → ℕ → List Check
+rises u v = check (u ≠? v) (refusal 25 nowhere 0) ∷ check (u ≤? v) (refusal 26 nowhere 0) ∷ []
+
+abbrev pub orderChecks : List ℕ → List Check
+orderChecks us = pairs rises us
+
+unfoldable pub universeBytes : List ℕ → List ℕ
+universeBytes [] = []
+universeBytes (u ∷ us) = be16 u ++ universeBytes us

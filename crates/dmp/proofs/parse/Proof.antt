@@ -1,0 +1,47 @@
+use Prim.Native.Nat.{ℕ}
+use mathlib.Core.Path.{_≡_, refl, sym, _∙_}
+use mathlib.Core.List.{List}
+use borrow.Author.Needs.{needs}
+use Rattle.refusal.specs.Check.{dmp}
+use Rattle.refusal.proofs.Laws.{by-answer}
+use Rattle.pdu.specs.Head.{infoOf}
+use Rattle.pdu.specs.declared.PduInfo.the-variants as info
+use Rattle.pdu.specs.declared.VectorLength.the-variants.{One}
+use Rattle.pdu.proofs.Head.{afterHead, head-first}
+use Rattle.dmp.specs.Layer.{dmpOf, bodyOf, bodyChecks, countOf}
+use Rattle.dmp.specs.declared.Dmp.the-variants.{Values, Refused}
+use Rattle.dmp.proofs.parse.Statement.{statement}
+use Rattle.dmp.proofs.parse.Tie as tie
+
+by-head : (p : List ℕ) → dmpOf p ≡ afterHead Refused (bodyOf p) (infoOf One dmp p)
+unfolding dmpOf bodyOf
+by-head p = head-first Refused One dmp p (bodyChecks p) (λ len vec. Values (countOf p))
+
+pdu-info-requires : tie.Need-pdu-info-requires
+pdu-info-requires c κs = search needs
+
+enum-known-r : tie.Need-enum-known-r
+enum-known-r c = search needs
+
+enum-known-length : tie.Need-enum-known-length
+enum-known-length c = search needs
+
+parse-body-requires : tie.Need-parse-body-requires
+parse-body-requires c κs = search needs
+
+returns : tie.Need-returns
+returns c = by-answer (afterHead Refused (bodyOf _)) (infoOf _ _ _) (info.Refused _) (cc) refl ∙ sym (by-head _)
+
+returns-2 : tie.Need-returns-2
+returns-2 c = by-answer (afterHead Refused (bodyOf _)) (infoOf _ _ _) (info.Info _ _) (cc) (c .parse-body .ensures) ∙ sym (by-head _)
+
+pub parse-spec : {M : Type 1} → statement M
+parse-spec =
+    tie.close
+    (tie.spec
+    pdu-info-requires
+    enum-known-r
+    enum-known-length
+    parse-body-requires
+    returns
+    returns-2)

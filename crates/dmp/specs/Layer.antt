@@ -1,0 +1,46 @@
+-- The DMP layer of a data packet. Offsets count from the layer's first byte, in its part p.
+use Prim.Native.Nat.{ℕ, _+_}
+use mathlib.Core.List.{List, [], _∷_, _++_}
+use lib.ListN.{length}
+use Rattle.wire.specs.Fields.{byteAt, u16At, be16, join}
+use Rattle.refusal.specs.Check.{Check, check, refusal, dmp, reaches, _≤?_, _=?_, reading}
+use Rattle.pdu.specs.Head.{headChecks, lengthOf, vectorOf, flagsAndLength}
+use Rattle.pdu.specs.declared.VectorLength.the-variants.{One}
+use Rattle.dmp.specs.declared.Dmp.{Dmp}
+use Rattle.dmp.specs.declared.Dmp.the-variants.{Values, Refused}
+
+abbrev pub countOf : List ℕ → ℕ
+countOf p = u16At p 8
+
+-- 1 if its length exceeds its part; 4; 2 for address type, first address, increment in turn; 1 if count + 10 differs from length;
+-- 2 if count is above 513
+abbrev pub bodyChecks : List ℕ → ℕ → ℕ → List Check
+bodyChecks p len vec =
+    check (len ≤? length p) (refusal 1 dmp 0)
+    ∷ check (vec =? 2) (refusal 4 dmp vec)
+    ∷ reaches 4 dmp p
+    ∷ check (byteAt p 3 =? 0xa1) (refusal 2 dmp 0)
+    ∷ reaches 6 dmp p
+    ∷ check (u16At p 4 =? 0) (refusal 2 dmp 0)
+    ∷ reaches 8 dmp p
+    ∷ check (u16At p 6 =? 1) (refusal 2 dmp 0)
+    ∷ reaches 10 dmp p
+    ∷ check (countOf p + 10 =? len) (refusal 1 dmp 0)
+    ∷ check (countOf p ≤? 513) (refusal 2 dmp 0)
+    ∷ []
+
+abbrev pub dmpChecks : List ℕ → List Check
+dmpChecks p = headChecks One dmp p ++ bodyChecks p (lengthOf p) (vectorOf One p)
+
+unfoldable pub bodyOf : List ℕ → ℕ → ℕ → Dmp
+bodyOf p len vec = reading Refused (bodyChecks p len vec) (Values (countOf p))
+
+unfoldable pub dmpOf : List ℕ → Dmp
+dmpOf p = reading Refused (dmpChecks p) (Values (countOf p))
+
+-- flags and length, vector, address type, first address, increment, count; then the values
+abbrev pub dmpHead : ℕ → List ℕ
+dmpHead count = join (flagsAndLength (10 + count) ∷ (2 ∷ []) ∷ (0xa1 ∷ []) ∷ be16 0 ∷ be16 1 ∷ be16 count ∷ [])
+
+unfoldable pub dmpBytes : List ℕ → List ℕ
+dmpBytes values = dmpHead (length values) ++ values

@@ -1,0 +1,64 @@
+use mathlib.Core.Path.{refl}
+use native.Mathlib.Omega.{arith}
+use borrow.Author.Needs.{needs}
+use denote.Ref.{now}
+use Rattle.refusal.specs.Check.{checkedOf}
+use Rattle.refusal.proofs.Laws.{by-answer, stop, pass}
+use Rattle.framing.specs.declared.Edition.{Edition}
+use Rattle.framing.specs.declared.Edition.the-variants.{E2018, E2009}
+use Rattle.framing.specs.Data.{syncAddressChecks}
+use Rattle.framing.proofs.data.check_synchronization_address.Statement.{statement}
+use Rattle.framing.proofs.data.check_synchronization_address.Tie as tie
+
+enum-told : tie.Need-enum-told
+enum-told c = search needs
+
+enum-told-2 : tie.Need-enum-told-2
+enum-told-2 c = search needs
+
+new-requires : tie.Need-new-requires
+new-requires c κs = search needs
+
+returns : tie.Need-returns
+unfolding checkedOf
+returns c = let a = c .before .before .before .before .before .args in
+    by-answer (λ (e : Edition). checkedOf (syncAddressChecks e (now (a .p)))) (a .edition) E2018 (cc) (stop 0 _ _ _ (omega arith) (cc))
+
+u16-at-requires : tie.Need-u16-at-requires
+u16-at-requires c κs = search needs
+
+cast-new : tie.Need-cast-new
+cast-new c = search needs
+
+new-requires-2 : tie.Need-new-requires-2
+new-requires-2 c κs = search needs
+
+returns-2 : tie.Need-returns-2
+unfolding checkedOf
+returns-2 c = let a = c .before .before .before .before .before .before .before .args in
+    by-answer (λ (e : Edition). checkedOf (syncAddressChecks e (now (a .p)))) (a .edition) E2018 (cc) (stop 1 _ _ _ (omega arith) (cc))
+
+returns-3 : tie.Need-returns-3
+unfolding checkedOf
+returns-3 c = let a = c .before .before .before .args in
+    by-answer (λ (e : Edition). checkedOf (syncAddressChecks e (now (a .p)))) (a .edition) E2009 (cc) (pass _ _ _ tt refl)
+
+returns-4 : tie.Need-returns-4
+unfolding checkedOf
+returns-4 c = let a = c .before .before .before .before .before .before .args in
+    by-answer (λ (e : Edition). checkedOf (syncAddressChecks e (now (a .p)))) (a .edition) E2018 (cc) (pass _ _ _ (omega arith) refl)
+
+pub check-synchronization-address-spec : {M : Type 1} → statement M
+check-synchronization-address-spec =
+    tie.close
+    (tie.spec
+    enum-told
+    enum-told-2
+    new-requires
+    returns
+    u16-at-requires
+    cast-new
+    new-requires-2
+    returns-2
+    returns-3
+    returns-4)

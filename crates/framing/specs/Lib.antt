@@ -1,0 +1,4 @@
+pub mod Data
+pub mod Synchronization
+pub mod UniverseDiscovery
+pub mod Extended

@@ -1,0 +1,83 @@
+-- Laws that the loops and the answers go by. Assumes nothing.
+use Prim.Native.Nat.{ℕ, suc, _+_, _-_, _≤_, _<_}
+use mathlib.Core.Path.{_≡_, refl, sym, ap, _∙_}
+use mathlib.Core.List.{List, [], _∷_, _++_}
+use native.Mathlib.Omega.{arith}
+use lib.ListN.{length, take, drop, getD, replicate, drop-of-length-le}
+use lib.Seq.{length-take-le, take-append-le, take-append-add}
+use Rattle.refusal.specs.Check.{_=?_}
+use Rattle.refusal.proofs.Tests.{chosen, passed-over, choice, decide}
+use Rattle.refusal.proofs.Laws.{found}
+use Rattle.wire.proofs.Laws.{drop-more, take-zeros}
+use Rattle.name.specs.Utf8.{leadOf, step, marked, reach}
+use Rattle.name.specs.Name.{zeroAt, textOf, sourceNameChecks, sourceNameOf, nameBytes}
+use Rattle.name.specs.declared.utf8.Expect.{Expect}
+use Rattle.name.specs.declared.SourceName.the-variants as source
+use Rattle.name.proofs.Choices.{Choices, row, rows, otherwise}
+
+-- the table of first bytes, with the rows e1..ec and ee..ef as 3 and 4
+unfoldable pub lead-table : (b : ℕ) → Choices (leadOf b)
+unfolding leadOf
+lead-table b = row _ _ (row _ _ (row _ _ (rows _ _ _ (row _ _ (row _ _ (row _ _ (row _ _ (otherwise _))))))))
+
+-- What is left of a list from the place i on.
+module _ (s : List ℕ) (i : ℕ) where
+  pub reach-more : (e : Expect) (whole : ℕ) → i < length s →
+      reach (step e (getD s i 0)) (marked (step e (getD s i 0)) (i + 1) whole) (i + 1) (drop (i + 1) s) ≡ reach e whole i (drop i s)
+  unfolding reach
+  reach-more e whole h = rw (drop-more s i h)
+
+  pub reach-end : (e : Expect) (whole : ℕ) → length s ≤ i → reach e whole i (drop i s) ≡ whole
+  unfolding reach
+  reach-end e whole h = rw (drop-of-length-le s h)
+
+  pub zero-here : i < length s → getD s i 0 ≡ 0 → zeroAt (drop i s) ≡ 0
+  unfolding zeroAt
+  zero-here h e = rw (drop-more s i h) (sym (chosen _ _ _ e refl))
+
+  pub zero-later : i < length s → (getD s i 0 ≡ 0 → ⊥) → zeroAt (drop i s) ≡ suc (zeroAt (drop (i + 1) s))
+  unfolding zeroAt
+  zero-later h f = rw (drop-more s i h) (sym (passed-over _ _ _ f refl))
+
+  pub zero-end : length s ≤ i → zeroAt (drop i s) ≡ 0
+  unfolding zeroAt
+  zero-end h = rw (drop-of-length-le s h)
+
+-- The first zero of a list is in it, and one that is put behind a name without a zero is the first.
+pub zero-within : (s : List ℕ) → zeroAt s ≤ length s
+unfolding zeroAt
+zero-within [] = omega arith
+zero-within (b ∷ s) =
+    let h : zeroAt s ≤ length s = zero-within s in
+    choice (λ (n : ℕ). n ≤ suc (length s)) (b =? 0) 0 (suc (zeroAt s)) (λ e. omega arith) (λ f. omega arith)
+
+pub text-length : (field : List ℕ) → length (textOf field) ≡ zeroAt field
+text-length field = length-take-le (zeroAt field) field (zero-within field)
+
+pub zero-after : (name rest : List ℕ) → zeroAt name ≡ length name → zeroAt (name ++ 0 ∷ rest) ≡ length name
+unfolding zeroAt
+zero-after [] rest e = sym (chosen (0 =? 0) 0 (suc (zeroAt rest)) refl refl)
+zero-after (b ∷ name) rest e =
+    decide (b =? 0) (λ h. absurd (omega (arith, chosen (b =? 0) 0 (suc (zeroAt name)) h refl)))
+    (λ f. sym (passed-over _ _ _ f (ap suc (sym (zero-after name rest (omega (arith, passed-over (b =? 0) 0 (suc (zeroAt name)) f refl)))))))
+
+-- A name that was found stands before a zero of its field.
+pub text-within : (field : List ℕ) (n : ℕ) → sourceNameOf field ≡ source.Text n → n < length field
+unfolding sourceNameOf
+text-within field n e =
+    let f = found source.Refused (sourceNameChecks field) (source.Text (zeroAt field)) (source.Text n) (λ r q. let z : _≡_ {A = ℕ} 0 1 = cc in omega arith) e in
+    let at : zeroAt field ≡ n = cc in
+    omega arith
+
+-- A name as it is written: cut at 64 bytes, or followed by zeros up to them.
+pub bytes-cut : (name : List ℕ) → 64 ≤ length name → nameBytes name ≡ take 64 name
+unfolding nameBytes
+bytes-cut name h = take-append-le 64 name (replicate 64 0) h
+
+pub bytes-filled : (name : List ℕ) → length name ≤ 64 → nameBytes name ≡ name ++ replicate (64 - length name) 0
+unfolding nameBytes
+bytes-filled name h =
+    let e : 64 ≡ length name + (64 - length name) = omega arith in
+    ap (λ (n : ℕ). take n (name ++ replicate 64 0)) e
+    ∙ take-append-add name (replicate 64 0) (64 - length name)
+    ∙ ap (λ (zs : List ℕ). name ++ zs) (take-zeros (64 - length name) 64 (omega arith))

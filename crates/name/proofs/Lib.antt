@@ -1,0 +1,5 @@
+pub mod Choices
+pub mod Laws
+pub mod Longest
+pub mod Points
+pub mod Examples

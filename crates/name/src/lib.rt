@@ -1,0 +1,79 @@
+// Source names: where one ends in its field, and whether its bytes are well-formed UTF-8.
+mod utf8;
+
+use refusal::Checked;
+use refusal::Refusal;
+use wire::constants::E131_SOURCE_NAME_FIELD_LENGTH;
+ghost use mathlib.Core.Path.{_≡_};
+ghost use lib.Seq.{sets};
+ghost use Rattle.refusal.specs.Check.{checkedOf};
+ghost use Rattle.name.specs.Name.{zeroAt, sourceNameOf, writtenNameChecks, nameBytes};
+pub use utf8::whole_characters;
+
+pub enum SourceName {
+    Text { len: usize },
+    Refused(Refusal),
+}
+
+// How many bytes stand before the first zero, or all of them.
+fn zero_at(s: &[u8]) -> usize
+    ensures { λ r. ⌜ r ≡ zeroAt (now (s .entry)) ⌝ }
+{
+    let mut i = 0;
+    while i < s.len() {
+        if s[i] == 0 {
+            return i;
+        }
+        i += 1;
+    }
+    i
+}
+
+// The name in a field: what follows its zero is not looked at.
+pub fn parse_source_name_str(field: &[u8]) -> SourceName
+    ensures { λ r. ⌜ r ≡ sourceNameOf (now (field .entry)) ⌝ }
+{
+    let len = zero_at(field);
+    if field.len() <= len {
+        return SourceName::Refused(Refusal::new(refusal::NAME_NOT_TERMINATED, refusal::FRAMING, 0));
+    }
+    if whole_characters(&field[0..len]) != len {
+        return SourceName::Refused(Refusal::new(refusal::NAME_NOT_UTF8, refusal::FRAMING, 0));
+    }
+    SourceName::Text { len }
+}
+
+// Whether a name may be written: it has to leave room for a zero in its field.
+pub fn check_source_name(name: &[u8]) -> Checked
+    ensures { λ r. ⌜ r ≡ checkedOf (writtenNameChecks (now (name .entry))) ⌝ }
+{
+    if E131_SOURCE_NAME_FIELD_LENGTH <= name.len() {
+        return Checked::Refused(Refusal::new(refusal::NAME_TOO_LONG, refusal::NOWHERE, 0));
+    }
+    if zero_at(name) < name.len() {
+        return Checked::Refused(Refusal::new(refusal::NAME_HAS_ZERO, refusal::NOWHERE, 0));
+    }
+    if whole_characters(name) != name.len() {
+        return Checked::Refused(Refusal::new(refusal::WRITTEN_NAME_NOT_UTF8, refusal::NOWHERE, 0));
+    }
+    Checked::Passed
+}
+
+// Writes the field at `at`: the name, and zeros up to its 64 bytes.
+pub fn pack_source_name(buf: &mut [u8], at: usize, name: &[u8])
+    ensures { λ _. ⌜ now (buf .exit) ≡ sets (now (buf .entry)) at (nameBytes (now (name .entry))) ⌝ }
+{
+    if buf.len() < at {
+        return;
+    }
+    if E131_SOURCE_NAME_FIELD_LENGTH <= name.len() {
+        wire::copy(buf, at, &name[0..E131_SOURCE_NAME_FIELD_LENGTH]);
+        return;
+    }
+    wire::copy(buf, at, name);
+    wire::zeros(
+        buf,
+        at + name.len(),
+        E131_SOURCE_NAME_FIELD_LENGTH - name.len(),
+    );
+}

@@ -1,0 +1,87 @@
+// Why a packet is refused: document 01's number, the place it is told at, and the value it carries.
+ghost use mathlib.Core.Path.{_≡_};
+ghost use Rattle.refusal.specs.Check.{refusal};
+
+// The numbers, each by what is wrong.
+pub const INSUFFICIENT_DATA: u8 = 1;
+
+pub const INVALID_DATA: u8 = 2;
+
+pub const INVALID_FLAGS: u8 = 3;
+
+pub const INVALID_VECTOR: u8 = 4;
+
+pub const INVALID_LENGTH: u8 = 5;
+
+pub const NAME_NOT_TERMINATED: u8 = 6;
+
+pub const NAME_NOT_UTF8: u8 = 7;
+
+pub const INVALID_PRIORITY: u8 = 8;
+
+pub const INVALID_SYNC_ADDRESS: u8 = 9;
+
+pub const INVALID_UNIVERSE: u8 = 10;
+
+pub const INVALID_PAGE: u8 = 11;
+
+pub const INVALID_UNIVERSE_ORDER: u8 = 12;
+
+pub const MISSING_FIELD: u8 = 13;
+
+pub const BUFFER_TOO_SMALL: u8 = 20;
+
+pub const NAME_TOO_LONG: u8 = 21;
+
+pub const NAME_HAS_ZERO: u8 = 22;
+
+pub const WRITTEN_NAME_NOT_UTF8: u8 = 23;
+
+pub const TOO_MANY: u8 = 24;
+
+pub const EQUAL_UNIVERSES: u8 = 25;
+
+pub const FALLING_UNIVERSES: u8 = 26;
+
+pub const NO_MULTICAST_ADDRESS: u8 = 30;
+
+pub const NO_UNIVERSES_COPIED: u8 = 31;
+
+// The places: the layer that refused, or none for the numbers from 20 on.
+pub const NOWHERE: u8 = 0;
+
+pub const PREAMBLE: u8 = 1;
+
+pub const ROOT: u8 = 2;
+
+pub const FRAMING: u8 = 3;
+
+pub const DMP: u8 = 4;
+
+pub const DISCOVERY: u8 = 5;
+
+pub const UNIVERSE_LIST: u8 = 6;
+
+pub struct Refusal {
+    pub number: u8,
+    pub place: u8,
+    pub value: u32,
+}
+
+// What a test of something answers where there is nothing to hand back.
+pub enum Checked {
+    Passed,
+    Refused(Refusal),
+}
+
+impl Refusal {
+    pub fn new(number: u8, place: u8, value: u32) -> Refusal
+        ensures { λ r. ⌜ r ≡ refusal number place value ⌝ }
+    {
+        Refusal {
+            number,
+            place,
+            value,
+        }
+    }
+}
