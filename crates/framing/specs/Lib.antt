@@ -2,3 +2,4 @@ pub mod Data
 pub mod Synchronization
 pub mod UniverseDiscovery
 pub mod Extended
+pub mod Bytes

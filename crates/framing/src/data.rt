@@ -14,9 +14,11 @@ use wire::constants::E131_PREVIEW_DATA_OPTION_BIT_MASK;
 use wire::constants::E131_STREAM_TERMINATION_OPTION_BIT_MASK;
 use wire::constants::VECTOR_E131_DATA_PACKET;
 ghost use mathlib.Core.Path.{_≡_};
+ghost use lib.Seq.{sets};
 ghost use Prim.Native.Nat.{_≤_};
 ghost use lib.ListN.{length as ListN·length};
 ghost use Rattle.refusal.specs.Check.{refusal, checkedOf, framing as framing·place};
+ghost use Rattle.framing.specs.Bytes.{bitOf, fieldBytes, dataFramingBytes};
 ghost use Rattle.framing.specs.Data.{dataOf, bodyOf, afterName, syncAddressChecks, afterSyncAddress, fieldsOf};
 
 // Indexes of the fields, from the layer's first byte.
@@ -33,6 +35,9 @@ const OPTIONS_FIELD_INDEX: usize = 74;
 const UNIVERSE_INDEX: usize = 75;
 
 const DATA_INDEX: usize = 77;
+
+// The layer's length with no values.
+const EMPTY_LENGTH: usize = 87;
 
 pub struct DataFields {
     pub priority: u8,
@@ -173,4 +178,52 @@ pub fn fields(p: &[u8]) -> DataFields
         force_synchronization: options / E131_FORCE_SYNCHRONISATION_OPTION_BIT_MASK % 2 == 1,
         universe: wire::u16_at(p, UNIVERSE_INDEX),
     }
+}
+
+fn bit(set: bool, mask: u8) -> u8
+    ensures { λ r. ⌜ r ≡ bitOf set mask ⌝ }
+{
+    if set { mask } else { 0 }
+}
+
+fn put_fields(buf: &mut [u8], at: usize, fields: DataFields)
+    ensures { λ _. ⌜ now (buf .exit) ≡ sets (now (buf .entry)) at (fieldBytes fields) ⌝ }
+{
+    let preview = bit(fields.preview_data, E131_PREVIEW_DATA_OPTION_BIT_MASK);
+    let terminated = bit(
+        fields.stream_terminated,
+        E131_STREAM_TERMINATION_OPTION_BIT_MASK,
+    );
+    let force = bit(
+        fields.force_synchronization,
+        E131_FORCE_SYNCHRONISATION_OPTION_BIT_MASK,
+    );
+    let bytes = [
+        fields.priority,
+        (fields.synchronization_address / 0x100 % 0x100) as u8,
+        (fields.synchronization_address % 0x100) as u8,
+        fields.sequence_number,
+        preview + terminated + force,
+        (fields.universe / 0x100 % 0x100) as u8,
+        (fields.universe % 0x100) as u8,
+    ];
+    wire::copy(buf, at, &bytes);
+}
+
+// Writes the layer at `at`. It cannot refuse: whoever packs a packet has checked name and values.
+pub fn pack(buf: &mut [u8], at: usize, fields: DataFields, name: &[u8], values: &[u8])
+    ensures { λ _. ⌜ now (buf .exit) ≡ sets (now (buf .entry)) at (dataFramingBytes fields (now (name .entry)) (now (values .entry))) ⌝ }
+{
+    if buf.len() < at {
+        return;
+    }
+    crate::put_head(
+        buf,
+        at,
+        EMPTY_LENGTH + values.len(),
+        VECTOR_E131_DATA_PACKET,
+    );
+    name::pack_source_name(buf, at + SOURCE_NAME_INDEX, name);
+    put_fields(buf, at + PRIORITY_INDEX, fields);
+    dmp::pack(buf, at + DATA_INDEX, values);
 }

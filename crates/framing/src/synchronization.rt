@@ -3,8 +3,11 @@ use refusal::Refusal;
 use wire::constants::E131_MAX_MULTICAST_UNIVERSE;
 use wire::constants::E131_MIN_MULTICAST_UNIVERSE;
 use wire::constants::E131_UNIVERSE_SYNC_PACKET_FRAMING_LAYER_LENGTH;
+use wire::constants::VECTOR_E131_EXTENDED_SYNCHRONIZATION;
 ghost use mathlib.Core.Path.{_≡_};
+ghost use lib.Seq.{sets};
 ghost use Rattle.refusal.specs.Check.{refusal, framing as framing·place};
+ghost use Rattle.framing.specs.Bytes.{synchronizationFramingBytes};
 ghost use Rattle.framing.specs.Synchronization.{synchronizationOf};
 
 // Indexes of the fields, from the layer's first byte.
@@ -55,4 +58,31 @@ pub fn parse(p: &[u8], length: u16) -> Synchronization
         sequence_number: wire::byte_at(p, E131_SYNC_FRAMING_LAYER_SEQ_NUM_FIELD_INDEX),
         synchronization_address,
     })
+}
+
+// Writes the layer at `at`.
+pub fn pack(buf: &mut [u8], at: usize, fields: SynchronizationFields)
+    ensures { λ _. ⌜ now (buf .exit) ≡ sets (now (buf .entry)) at (synchronizationFramingBytes fields) ⌝ }
+{
+    if buf.len() < at {
+        return;
+    }
+    crate::put_head(
+        buf,
+        at,
+        E131_UNIVERSE_SYNC_PACKET_FRAMING_LAYER_LENGTH as usize,
+        VECTOR_E131_EXTENDED_SYNCHRONIZATION,
+    );
+    let bytes = [
+        fields.sequence_number,
+        (fields.synchronization_address / 0x100 % 0x100) as u8,
+        (fields.synchronization_address % 0x100) as u8,
+        0,
+        0,
+    ];
+    wire::copy(
+        buf,
+        at + E131_SYNC_FRAMING_LAYER_SEQ_NUM_FIELD_INDEX,
+        &bytes,
+    );
 }

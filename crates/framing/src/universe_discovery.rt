@@ -4,6 +4,9 @@ use discovery::DiscoveryFields;
 use name::SourceName;
 use refusal::Refusal;
 use wire::constants::E131_UNIVERSE_DISCOVERY_FRAMING_LAYER_MIN_LENGTH;
+use wire::constants::VECTOR_E131_EXTENDED_DISCOVERY;
+ghost use lib.Seq.{sets};
+ghost use Rattle.framing.specs.Bytes.{discoveryFramingBytes};
 ghost use mathlib.Core.Path.{_≡_};
 ghost use Rattle.refusal.specs.Check.{refusal, framing as framing·place};
 ghost use Rattle.framing.specs.UniverseDiscovery.{discoveryFramingOf};
@@ -14,6 +17,9 @@ const E131_DISCOVERY_FRAMING_LAYER_SOURCE_NAME_FIELD_INDEX: usize = 6;
 const E131_DISCOVERY_FRAMING_LAYER_RESERVE_FIELD_INDEX: usize = 70;
 
 const E131_DISCOVERY_FRAMING_LAYER_DATA_INDEX: usize = 74;
+
+// The layer's length with no universes.
+const EMPTY_LENGTH: usize = 82;
 
 // A layer that is read: how many bytes its name has, and its page with as many universes.
 pub enum DiscoveryFraming {
@@ -58,4 +64,35 @@ pub fn parse(p: &[u8], length: u16) -> DiscoveryFraming
             universes: count,
         },
     }
+}
+
+// Writes the layer at `at`. It cannot refuse: whoever packs a packet has checked name and universes.
+pub fn pack(buf: &mut [u8], at: usize, fields: DiscoveryFields, name: &[u8], universes: &[u16])
+    ensures { λ _. ⌜ now (buf .exit) ≡ sets (now (buf .entry)) at (discoveryFramingBytes fields (now (name .entry)) (now (universes .entry))) ⌝ }
+{
+    if buf.len() < at {
+        return;
+    }
+    crate::put_head(
+        buf,
+        at,
+        EMPTY_LENGTH + 2 * universes.len(),
+        VECTOR_E131_EXTENDED_DISCOVERY,
+    );
+    name::pack_source_name(
+        buf,
+        at + E131_DISCOVERY_FRAMING_LAYER_SOURCE_NAME_FIELD_INDEX,
+        name,
+    );
+    wire::put_u32(
+        buf,
+        at + E131_DISCOVERY_FRAMING_LAYER_RESERVE_FIELD_INDEX,
+        0,
+    );
+    discovery::pack(
+        buf,
+        at + E131_DISCOVERY_FRAMING_LAYER_DATA_INDEX,
+        fields,
+        universes,
+    );
 }

@@ -3,7 +3,7 @@ use Prim.Native.Nat.{ℕ, suc, _+_, _-_, _≤_, _<_}
 use mathlib.Core.Path.{_≡_, refl, sym, ap, _∙_}
 use mathlib.Core.List.{List, [], _∷_, _++_}
 use native.Mathlib.Omega.{arith}
-use lib.ListN.{length, take, drop, getD, replicate, drop-of-length-le}
+use lib.ListN.{length, take, drop, getD, replicate, drop-of-length-le, length-append, length-replicate}
 use lib.Seq.{length-take-le, take-append-le, take-append-add}
 use Rattle.refusal.specs.Check.{_=?_}
 use Rattle.refusal.proofs.Tests.{chosen, passed-over, choice, decide}
@@ -81,3 +81,7 @@ bytes-filled name h =
     ap (λ (n : ℕ). take n (name ++ replicate 64 0)) e
     ∙ take-append-add name (replicate 64 0) (64 - length name)
     ∙ ap (λ (zs : List ℕ). name ++ zs) (take-zeros (64 - length name) 64 (omega arith))
+
+pub bytes-64 : (name : List ℕ) → length (nameBytes name) ≡ 64
+unfolding nameBytes
+bytes-64 name = length-take-le 64 (name ++ replicate 64 0) (simp (length-append, length-replicate) (omega arith))

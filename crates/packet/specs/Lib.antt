@@ -1,3 +1,4 @@
 pub mod Root
 pub mod Packet
 pub mod Parts
+pub mod Writing

@@ -1,4 +1,5 @@
 // A whole datagram: what it is read as, and the parts of it that a reading shows.
+pub mod pack;
 pub mod root;
 
 use discovery::DiscoveryFields;

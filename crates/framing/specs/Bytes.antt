@@ -1,0 +1,45 @@
+-- The framing layers as bytes, segment by segment in document 01's layout. Lengths follow from the counts; reserved places are zero.
+use Prim.Native.Nat.{ℕ, _+_, _*_}
+use mathlib.Core.Bool.{Bool, true, false}
+use mathlib.Core.List.{List, [], _∷_, _++_}
+use lib.ListN.{length}
+use Rattle.wire.specs.Fields.{be16, be32, join}
+use Rattle.name.specs.Name.{nameBytes}
+use Rattle.pdu.specs.Head.{flagsAndLength}
+use Rattle.dmp.specs.Layer.{dmpBytes}
+use Rattle.discovery.specs.declared.DiscoveryFields.{DiscoveryFields}
+use Rattle.discovery.specs.Layer.{discoveryBytes}
+use Rattle.framing.specs.declared.data.DataFields.{DataFields}
+use Rattle.framing.specs.declared.synchronization.SynchronizationFields.{SynchronizationFields}
+
+-- flags and length, vector
+abbrev pub framingHead : ℕ → ℕ → List ℕ
+framingHead len vector = join (flagsAndLength len ∷ be32 vector ∷ [])
+
+-- 0x80 preview, 0x40 terminated, 0x20 force synchronization; the low five bits are zero
+abbrev pub bitOf : Bool → ℕ → ℕ
+bitOf true bit = bit
+bitOf false bit = 0
+
+abbrev pub optionsOf : DataFields → ℕ
+optionsOf f = bitOf (f .«preview_data») 0x80 + bitOf (f .«stream_terminated») 0x40 + bitOf (f .«force_synchronization») 0x20
+
+-- priority, sync address, sequence, options, universe
+abbrev pub fieldBytes : DataFields → List ℕ
+fieldBytes f =
+    join ((f .priority ∷ []) ∷ be16 (f .«synchronization_address») ∷ (f .«sequence_number» ∷ []) ∷ (optionsOf f ∷ []) ∷ be16 (f .universe) ∷ [])
+
+-- data: flags and length, vector 2; name; the fields; the DMP layer
+unfoldable pub dataFramingBytes : DataFields → List ℕ → List ℕ → List ℕ
+dataFramingBytes f name values = framingHead (87 + length values) 2 ++ (nameBytes name ++ (fieldBytes f ++ dmpBytes values))
+
+-- sync: flags and length, vector 1; sequence, sync address, two reserved bytes
+abbrev pub syncFieldBytes : SynchronizationFields → List ℕ
+syncFieldBytes f = join ((f .«sequence_number» ∷ []) ∷ be16 (f .«synchronization_address») ∷ be16 0 ∷ [])
+
+unfoldable pub synchronizationFramingBytes : SynchronizationFields → List ℕ
+synchronizationFramingBytes f = framingHead 11 1 ++ syncFieldBytes f
+
+-- discovery: flags and length, vector 2; name; four reserved bytes; the discovery layer
+unfoldable pub discoveryFramingBytes : DiscoveryFields → List ℕ → List ℕ → List ℕ
+discoveryFramingBytes f name us = framingHead (82 + 2 * length us) 2 ++ (nameBytes name ++ (be32 0 ++ discoveryBytes f us))
