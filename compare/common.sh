@@ -1,0 +1,60 @@
+# What the scripts of this folder share. Sourced by bash; needs `here`, this folder.
+
+root=$(cd "$here/.." && pwd -P)
+build=${COMPARE_BUILD:-$root/target/compare}
+program=$(basename "$0")
+
+die() {
+    printf '%s: %s\n' "$program" "$*" >&2
+    exit 2
+}
+
+# Installs the Debian packages that are missing.
+install_packages() { # PACKAGE...
+    local missing=() p
+    for p in "$@"; do
+        dpkg-query -W -f '${Status}' "$p" 2>/dev/null | grep -q 'ok installed' || missing+=("$p")
+    done
+    [ ${#missing[@]} -gt 0 ] || return 0
+    [ "$(id -u)" = 0 ] || die "these packages are missing, and only root can install them: ${missing[*]}"
+    apt-get update >&2 && apt-get install -y --no-install-recommends "${missing[@]}" >&2
+}
+
+# Copies our project to the build folder, where cargo may write, and sets the words for cargo.
+prepare_rust() { # SOURCES
+    local f
+    for f in packet.rs error.rs sacn_parse_pack_error.rs; do
+        [ -f "$1/$f" ] || die "$1 has no $f: SOURCES is the folder of the crate's sources"
+    done
+    command -v cargo >/dev/null || die "cargo and rustc are needed"
+    SACN_SOURCES=$(cd "$1" && pwd -P)
+    export SACN_SOURCES
+    install_packages librust-byteorder-dev librust-uuid-dev librust-thiserror-dev librust-socket2-dev
+    # Debian lays the sources of its crates where cargo can take them in place of crates.io.
+    local registry
+    registry=$(dpkg -L librust-byteorder-dev | sed -n 's|/byteorder-[0-9.]*$||p' | head -n 1)
+    [ -d "$registry" ] || die "librust-byteorder-dev has no folder of sources"
+    cargo_words=(--offline --config 'source.crates-io.replace-with="debian"'
+        --config "source.debian.directory=\"$registry\"")
+    mkdir -p "$build/project"
+    cp -Rp "$here/Cargo.toml" "$here/sacn" "$here/judge" "$build/project/"
+}
+
+# Builds our Rust programs for this machine; `rust` is their folder.
+build_rust() { # SOURCES
+    prepare_rust "$1"
+    (cd "$build/project" && cargo "${cargo_words[@]}" build --release --target-dir "$build/rust") ||
+        die "the Rust side was not built"
+    rust=$build/rust/release
+}
+
+# Proves and builds the Rattle programs and sets `start`, the words that start one.
+build_rattle() { # NAME...
+    local name
+    for name in "$@"; do
+        [ -d "$root/crates/$name" ] || die "the repository has no crates/$name"
+    done
+    command -v rt >/dev/null || die "rt, the toolchain's command, is needed"
+    (cd "$root" && rt check "$@") >&2 || die "the Rattle side was not proved"
+    . "$root/start.sh"
+}

@@ -1,0 +1,80 @@
+//! Name fields of every kind.
+
+use super::samples;
+use crate::wire::*;
+
+/// Bytes at which a range of UTF-8's table begins or ends, and their neighbours.
+pub const EDGES: [u8; 27] = [
+    0x00, 0x01, 0x7f, 0x80, 0x8f, 0x90, 0x9f, 0xa0, 0xbf, 0xc0, 0xc1, 0xc2, 0xdf, 0xe0, 0xe1, 0xec,
+    0xed, 0xee, 0xef, 0xf0, 0xf1, 0xf3, 0xf4, 0xf5, 0xf7, 0xf8, 0xff,
+];
+
+/// Characters of each length, whole.
+pub const CHARACTERS: [&str; 8] = [
+    "A",
+    "\u{7f}",
+    "\u{80}",
+    "é",
+    "\u{7ff}",
+    "\u{ffff}",
+    "\u{10000}",
+    "\u{10ffff}",
+];
+
+/// The first 64 bytes as the name field of a data and of a discovery packet.
+fn put(bytes: &[u8], sink: &mut dyn FnMut(Vec<u8>)) {
+    for record in [samples::data(b"", 1), samples::discovery(b"", 1)] {
+        let mut d = record.datagram();
+        d[NAME..NAME + bytes.len()].copy_from_slice(bytes);
+        sink(d);
+    }
+}
+
+/// Names of each length with each kind of character last, with and without rubbish after the zero;
+/// fields of 64 bytes without a zero.
+pub fn fields(sink: &mut dyn FnMut(Vec<u8>)) {
+    for character in CHARACTERS {
+        for before in 0..=64 - character.len() {
+            let mut field = vec![b'n'; before];
+            field.extend(character.as_bytes());
+            put(&field, sink);
+            // Behind the zero anything goes, malformed bytes and further zeros, too.
+            if field.len() < 64 {
+                field.push(0);
+                field.resize(64, 0xff);
+                put(&field, sink);
+                field[63] = 0;
+                put(&field, sink);
+            }
+            // A character without its last byte, at the end of the field or before the zero.
+            let mut short = vec![b'n'; before];
+            short.extend(&character.as_bytes()[..character.len() - 1]);
+            put(&short, sink);
+        }
+    }
+    for byte in EDGES {
+        put(&[byte; 64], sink);
+        put(&[byte; 63], sink);
+    }
+}
+
+/// Sequences of up to four edge bytes: two and three in all ways, four behind the long leads.
+pub fn sequences(sink: &mut dyn FnMut(Vec<u8>)) {
+    for a in EDGES {
+        for b in EDGES {
+            put(&[a, b], sink);
+            for c in EDGES {
+                put(&[a, b, c], sink);
+            }
+        }
+    }
+    for a in [0xf0, 0xf1, 0xf3, 0xf4, 0xf5] {
+        for b in EDGES {
+            for c in [0x7f, 0x80, 0xbf, 0xc0] {
+                for d in [0x00, 0x7f, 0x80, 0xbf, 0xc0] {
+                    put(&[a, b, c, d], sink);
+                }
+            }
+        }
+    }
+}

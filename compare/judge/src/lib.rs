@@ -1,0 +1,13 @@
+//! The crate sacn as the judge of our packet programs: what it is asked, and what it answers.
+
+pub mod capture;
+pub mod dump;
+pub mod inputs;
+pub mod oracle;
+pub mod probe;
+pub mod random;
+pub mod record;
+pub mod refusal;
+pub mod request;
+pub mod tally;
+pub mod wire;

@@ -1,0 +1,145 @@
+//! How often each record and each refusal was met.
+
+use crate::oracle::Answer;
+use crate::request::Request;
+use std::collections::BTreeMap;
+
+#[derive(Clone, Copy, PartialEq, Eq, PartialOrd, Ord)]
+pub enum Met {
+    Read(&'static str),
+    /// Number and place.
+    ReadRefused(u8, u8),
+    Packed(&'static str),
+    PackRefused(u8),
+    Address,
+    NoAddress(u8),
+}
+
+use Met::*;
+
+/// All that can occur. What is met and not listed here is a fault, too.
+const EXPECTED: [Met; 42] = [
+    Read("data"),
+    Read("sync"),
+    Read("disc"),
+    ReadRefused(1, 1),
+    ReadRefused(2, 1),
+    ReadRefused(1, 2),
+    ReadRefused(3, 2),
+    ReadRefused(4, 2),
+    ReadRefused(13, 2),
+    ReadRefused(1, 3),
+    ReadRefused(3, 3),
+    ReadRefused(4, 3),
+    ReadRefused(5, 3),
+    ReadRefused(6, 3),
+    ReadRefused(7, 3),
+    ReadRefused(8, 3),
+    ReadRefused(9, 3),
+    ReadRefused(10, 3),
+    ReadRefused(13, 3),
+    ReadRefused(1, 4),
+    ReadRefused(2, 4),
+    ReadRefused(3, 4),
+    ReadRefused(4, 4),
+    ReadRefused(13, 4),
+    ReadRefused(1, 5),
+    ReadRefused(3, 5),
+    ReadRefused(4, 5),
+    ReadRefused(5, 5),
+    ReadRefused(11, 5),
+    ReadRefused(12, 6),
+    Packed("data"),
+    Packed("sync"),
+    Packed("disc"),
+    PackRefused(20),
+    PackRefused(21),
+    PackRefused(22),
+    PackRefused(23),
+    PackRefused(24),
+    PackRefused(25),
+    PackRefused(26),
+    Address,
+    NoAddress(30),
+];
+
+/// What document 01 writes down and no input reaches, with the reason.
+const UNREACHABLE: [(&str, &str); 6] = [
+    (
+        "1 at place 6",
+        "the count is made from the part: (length - 8) / 2 universes always fit",
+    ),
+    (
+        "1 at place 5, part below 6 bytes",
+        "a discovery framing length of 82 or more leaves 8 bytes; 1 at place 5 is a length that differs",
+    ),
+    (
+        "5 at place 5, length below 8",
+        "the length equals the part, which has 8 bytes or more; 5 at place 5 is a length above 1032",
+    ),
+    (
+        "13 in sync and discovery framing",
+        "their lengths, 11 and at least 82, are asked for before the fields",
+    ),
+    (
+        "13 at places 5 and 6",
+        "the part has 8 bytes or more, and the list is whole",
+    ),
+    ("31", "copying universes out is not the crate's; the probe has no request for it"),
+];
+
+#[derive(Default)]
+pub struct Tally(BTreeMap<Met, u64>);
+
+impl Tally {
+    pub fn count(&mut self, request: &Request, answer: &Answer) {
+        *self.0.entry(met(request, answer)).or_default() += 1;
+    }
+
+    /// Prints the table; says whether all that can occur was met, and nothing else.
+    pub fn print(&self) -> bool {
+        for met in EXPECTED {
+            println!("{:<28}{:>10}", name(met), self.0.get(&met).unwrap_or(&0));
+        }
+        println!("cannot occur:");
+        for (what, why) in UNREACHABLE {
+            println!("  {what}: {why}");
+        }
+        let missed = EXPECTED.iter().filter(|met| !self.0.contains_key(met));
+        let missed: Vec<_> = missed.map(|met| name(*met)).collect();
+        let strange = self.0.keys().filter(|met| !EXPECTED.contains(met));
+        let strange: Vec<_> = strange.map(|met| name(*met)).collect();
+        for what in &missed {
+            println!("never met: {what}");
+        }
+        for what in &strange {
+            println!("met, and it should not occur: {what}");
+        }
+        missed.is_empty() && strange.is_empty()
+    }
+}
+
+pub fn met(request: &Request, answer: &Answer) -> Met {
+    match answer {
+        Answer::Read(record) => Read(record.kind()),
+        Answer::ReadRefused(r) => ReadRefused(r.number, r.place),
+        Answer::Packed { .. } => match request {
+            Request::Pack(record, _) => Packed(record.kind()),
+            _ => unreachable!("only a request to pack is packed"),
+        },
+        Answer::PackRefused(r) => PackRefused(r.number),
+        Answer::Address(..) => Address,
+        Answer::NoAddress(r) => NoAddress(r.number),
+    }
+}
+
+fn name(met: Met) -> String {
+    match met {
+        Read(kind) => format!("read {kind}"),
+        ReadRefused(number, place) => format!("read refused {number} place {place}"),
+        Packed(kind) => format!("packed {kind}"),
+        PackRefused(number) => format!("pack refused {number}"),
+        Address => "universe address".to_string(),
+        NoAddress(number) => format!("universe refused {number}"),
+    }
+}

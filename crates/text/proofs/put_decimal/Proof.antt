@@ -1,0 +1,54 @@
+use native.Mathlib.Omega.{arith}
+use Prim.Native.Nat.{_≤_, _-_}
+use mathlib.Core.Path.{_≡_, _∙_}
+use lib.ListN.{length, take, drop, length-drop}
+use lib.Seq.{take-all}
+use Rattle.text.specs.Digits.{decimal}
+use borrow.Author.Needs.{needs}
+use Rattle.text.proofs.put_decimal.Statement.{statement}
+use Rattle.text.proofs.put_decimal.Tie as tie
+use Rattle.text.proofs.put_decimal.Reads as reads
+use Rattle.text.proofs.put_decimal.Lts as lts
+use Rattle.text.proofs.put.Reads as put-reads
+use Rattle.text.proofs.spell.Reads as spell-reads
+
+slice-aggregate-spell : tie.Need-slice-aggregate-spell
+slice-aggregate-spell c = search needs
+
+spell-requires : tie.Need-spell-requires
+spell-requires c κs = search needs
+
+sub-put : tie.Need-sub-put
+sub-put c = search needs
+
+part-put-start : tie.Need-part-put-start
+part-put-start c = search needs
+
+part-put-end : tie.Need-part-put-end
+part-put-end c = search needs
+
+put-requires : tie.Need-put-requires
+put-requires c κs = search needs
+
+same-length : tie.Need-same-length
+same-length c = search needs
+
+returns : tie.Need-returns
+returns c = let d = c .before .before .before .before .before .before .before .spell .last .0 in
+    let k = c .before .before .before .before .before .before .before .spell .result in
+    let h : length (drop k d) ≤ 20 - k = omega (arith, length-drop k d) in
+    let e : take (20 - k) (drop k d) ≡ decimal (c .before .before .before .before .before .before .before .before .before .before .args .n) = take-all (20 - k) (drop k d) h ∙ c .before .before .before .before .before .before .before .spell .ensures .1 in
+    rw (← e) (c .before .before .put .ensures)
+
+pub put-decimal-spec : {M : Type 1} → statement M
+put-decimal-spec =
+    tie.close
+    (tie.spec
+    slice-aggregate-spell
+    spell-requires
+    sub-put
+    part-put-start
+    part-put-end
+    put-requires
+    same-length
+    returns)

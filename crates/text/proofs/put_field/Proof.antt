@@ -1,0 +1,23 @@
+use Rattle.text.proofs.Puts.{put-then}
+use borrow.Author.Needs.{needs}
+use Rattle.text.proofs.put_field.Statement.{statement}
+use Rattle.text.proofs.put_field.Tie as tie
+use Rattle.text.proofs.put_field.Reads as reads
+use Rattle.text.proofs.put_field.Lts as lts
+use Rattle.text.proofs.put.Reads as put-reads
+use Rattle.text.proofs.put_decimal.Reads as put-decimal-reads
+
+put-requires : tie.Need-put-requires
+put-requires c κs = search needs
+
+put-decimal-requires : tie.Need-put-decimal-requires
+put-decimal-requires c κs = search needs
+
+same-length : tie.Need-same-length
+same-length c = search needs
+
+returns : tie.Need-returns
+returns c = put-then (c .before .before .before .before .before .before .put .ensures) (c .before .before .put-decimal .ensures)
+
+pub put-field-spec : {M : Type 1} → statement M
+put-field-spec = tie.close (tie.spec put-requires put-decimal-requires same-length returns)
