@@ -1,3 +1,4 @@
 pub mod Content
 pub mod Limits
 pub mod Ignored
+pub mod Examples

@@ -1,0 +1,17 @@
+pub mod Edges
+pub mod Segments
+pub mod Root
+pub mod Names
+pub mod DataLayer
+pub mod DataPlaces
+pub mod DataTaken
+pub mod Data
+pub mod Variants
+pub mod Meaning
+pub mod Extended
+pub mod Synchronization
+pub mod UniverseLists
+pub mod DiscoveryLayers
+pub mod DiscoveryPackets
+pub mod DiscoveryOnly
+pub mod Discovery
