@@ -3,6 +3,7 @@
 pub mod capture;
 pub mod dump;
 pub mod inputs;
+pub mod kinds;
 pub mod oracle;
 pub mod probe;
 pub mod random;

@@ -1,5 +1,6 @@
 //! The crate's errors and panics as document 01's refusals: number, place, value.
 
+use crate::kinds;
 use crate::wire::*;
 use sacn::error::errors::SacnError;
 use sacn::sacn_parse_pack_error::ParsePacketError::{self, *};
@@ -17,8 +18,18 @@ const UNEXPECTED: (u8, u32) = (0, 0);
 /// A panic while reading; its place is the layer whose code panicked.
 pub const PANIC: u8 = 13;
 
-/// The one table: the crate's kind of error, document 01's number, and the value the error carries.
+/// Document 01's number for an error of the crate, and the value the error carries. The number counts
+/// only where the definition of crates/demands gives it the error's kind.
 fn number_and_value(error: &ParsePacketError, writing: bool) -> (u8, u32) {
+    let (number, value) = by_kind(error, writing);
+    if kinds::of(number) == kinds::name(error) {
+        (number, value)
+    } else {
+        UNEXPECTED
+    }
+}
+
+fn by_kind(error: &ParsePacketError, writing: bool) -> (u8, u32) {
     match error {
         // The crate's short-buffer error at writing is of a kind that stands for bad data at reading.
         ParseInvalidData(_) if writing => (20, 0),

@@ -1,4 +1,5 @@
 pub mod Edges
+pub mod Untouched
 pub mod Segments
 pub mod Root
 pub mod Names

@@ -143,16 +143,27 @@ fn chosen() -> Vec<Vec<u8>> {
     chosen
 }
 
+/// Document 01's own capture: its packet S, and the empty datagram.
+fn example() -> Vec<Vec<u8>> {
+    let s = Record::Sync(Sync {
+        cid: [0x11; 16],
+        sequence: 7,
+        address: 8000,
+    });
+    vec![s.datagram(), Vec::new()]
+}
+
 fn sample(folder: &Path) -> io::Result<()> {
     let mut entries = create(folder, "sample.capture")?;
     let mut lines = create(folder, "sample.lines")?;
     let mut text = Vec::new();
-    let chosen = chosen();
-    for (i, datagram) in chosen.iter().enumerate() {
+    let mut datagrams = example();
+    datagrams.extend(chosen());
+    for (i, datagram) in datagrams.iter().enumerate() {
         capture::write_entry(&mut entries, datagram)?;
         dump::write_line(&mut lines, i as u64 + 1, datagram, &mut text)?;
     }
-    writeln!(lines, "end {}", chosen.len())?;
+    writeln!(lines, "end {}", datagrams.len())?;
     lines.flush()?;
     entries.flush()
 }
