@@ -16,3 +16,7 @@ pub mod DiscoveryLayers
 pub mod DiscoveryPackets
 pub mod DiscoveryOnly
 pub mod Discovery
+pub mod Edition2009
+pub mod Settled
+pub mod Exactly
+pub mod Definitions

@@ -1,7 +1,7 @@
 -- Demand 1, of writing: a refused write leaves the buffer as found; an accepted one leaves every byte from the packet's length on as found, and
 -- keeps the buffer's length. Assumes nothing.
 use Prim.Native.Nat.{ℕ, _≤_}
-use mathlib.Core.Path.{_≡_, refl, ap, _∙_}
+use mathlib.Core.Path.{_≡_, _∙_}
 use mathlib.Core.List.{List, _∷_, _++_}
 use native.Mathlib.Omega.{arith}
 use lib.ListN.{length, drop, length-append, length-drop}

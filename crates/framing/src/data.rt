@@ -24,15 +24,15 @@ ghost use Rattle.framing.specs.Data.{dataOf, bodyOf, afterName, syncAddr
 // Indexes of the fields, from the layer's first byte.
 const SOURCE_NAME_INDEX: usize = 6;
 
-const PRIORITY_INDEX: usize = 70;
+pub const PRIORITY_INDEX: usize = 70;
 
 const SYNC_ADDR_INDEX: usize = 71;
 
-const SEQ_NUM_INDEX: usize = 73;
+pub const SEQ_NUM_INDEX: usize = 73;
 
-const OPTIONS_FIELD_INDEX: usize = 74;
+pub const OPTIONS_FIELD_INDEX: usize = 74;
 
-const UNIVERSE_INDEX: usize = 75;
+pub const UNIVERSE_INDEX: usize = 75;
 
 const DATA_INDEX: usize = 77;
 

@@ -66,7 +66,7 @@ pub fn pack_source_name(buf: &mut [u8], at: usize, name: &[u8])
     if buf.len() < at {
         return;
     }
-    if E131_SOURCE_NAME_FIELD_LENGTH <= name.len() {
+    if name.len() >= E131_SOURCE_NAME_FIELD_LENGTH {
         wire::copy(buf, at, &name[0..E131_SOURCE_NAME_FIELD_LENGTH]);
         return;
     }

@@ -3,10 +3,11 @@ use Prim.Native.Nat.{ℕ, _+_, _-_, _≤_}
 use mathlib.Core.Path.{_≡_, refl, sym, _∙_}
 use mathlib.Core.List.{List, _++_}
 use native.Mathlib.Omega.{arith}
-use lib.ListN.{length, take, drop, length-drop}
+use lib.ListN.{length, take, drop, replicate, length-drop}
 use lib.Seq.{drop-drop}
 use Rattle.refusal.specs.declared.Refusal.{Refusal}
-use Rattle.refusal.specs.Check.{root, _=?_, choose}
+use Rattle.refusal.specs.Check.{root, _≤?_, _=?_, choose}
+use Rattle.refusal.proofs.Tests.{chosen}
 use Rattle.refusal.proofs.Laws.{All, found, all-front, all-back, reading-++, reading-choose, inner}
 use Rattle.pdu.specs.Head.{headChecks, lengthOf, vectorOf}
 use Rattle.pdu.specs.declared.VectorLength.the-variants.{Four}
@@ -15,7 +16,7 @@ use Rattle.framing.specs.declared.Edition.the-variants.{E2018}
 use Rattle.framing.specs.Data.{dataChecks}
 use Rattle.framing.specs.Extended.{extendedChecks}
 use Rattle.packet.specs.Root.{preambleChecks, rootPart, vectorChecks, lengthChecks, cidChecks, bodyChecks, rootChecks, rootOf}
-use Rattle.packet.specs.Packet.{rootVector, framingPart, framingChecks, packetChecks, recordOf, dataRecord, extendedRecord, packetOf, dataPacketOf, extendedPacketOf}
+use Rattle.packet.specs.Packet.{cidOf, cidIn, rootVector, framingPart, framingChecks, packetChecks, recordOf, dataRecord, extendedRecord, packetOf, dataPacketOf, extendedPacketOf}
 use Rattle.packet.specs.declared.root.Root.{Root}
 use Rattle.packet.specs.declared.root.Root.the-variants as layer
 use Rattle.packet.specs.declared.Packet.{Packet}
@@ -52,6 +53,11 @@ unfolding packetOf
 packet-within d x none e =
     let f = found Refused (packetChecks d) (recordOf d) x none e in
     omega (arith, within E2018 d (all-front (preambleChecks d ++ rootChecks E2018 (rootPart d)) (framingChecks d) (f .0)))
+
+-- the CID of a datagram that has room for it
+pub cid-known : (d : List ℕ) → 38 ≤ length d → cidIn d ≡ cidOf d
+unfolding cidIn
+cid-known d h = sym (chosen (38 ≤? length d) (cidOf d) (replicate 16 0) h refl)
 
 -- the framing layer's part as the code cuts it
 pub framing-part : (d : List ℕ) (n : ℕ) → take (16 + n - 38) (drop 38 d) ≡ take (n - 22) (drop 22 (rootPart d))

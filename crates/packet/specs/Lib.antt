@@ -1,4 +1,5 @@
 pub mod Root
 pub mod Packet
+pub mod Table
 pub mod Parts
 pub mod Writing

@@ -2,7 +2,7 @@
 use Prim.Native.Nat.{ℕ, _+_, _-_, _*_}
 use mathlib.Core.List.{List, _++_}
 use lib.ListN.{length, take, drop, replicate}
-use Rattle.refusal.specs.Check.{Check, _=?_, choose, reading}
+use Rattle.refusal.specs.Check.{Check, _≤?_, _=?_, choose, reading}
 use Rattle.pdu.specs.Head.{lengthOf, vectorOf}
 use Rattle.pdu.specs.declared.VectorLength.the-variants.{Four}
 use Rattle.name.specs.Name.{zeroAt}
@@ -76,10 +76,14 @@ dataPacketOf p = reading Refused (dataChecks E2018 p) (Data (dataRecord p))
 unfoldable pub extendedPacketOf : ℕ → List ℕ → Packet
 extendedPacketOf whole p = reading Refused (extendedChecks whole p) (extendedRecord p)
 
--- the CID is sixteen zeros at a refusal
+-- the CID of a datagram that has one, and sixteen zeros where it is too short
 abbrev pub cidOf : List ℕ → List ℕ
 cidOf d = take 16 (drop 22 d)
 
+unfoldable pub cidIn : List ℕ → List ℕ
+cidIn d = choose (38 ≤? length d) (cidOf d) (replicate 16 0)
+
+-- the CID beside an answer: sixteen zeros at a refusal
 abbrev pub withCid : List ℕ → Packet → Reading
 withCid d (Refused r) = record { cid = replicate 16 0; packet = Refused r }
 withCid d (Data x) = record { cid = cidOf d; packet = Data x }

@@ -11,24 +11,24 @@ use framing::synchronization::SynchronizationFields;
 use refusal::Refusal;
 use root::ROOT_LAYER_INDEX;
 use root::Root;
+use wire::constants::E131_CID_FIELD_LENGTH;
 use wire::constants::VECTOR_ROOT_E131_DATA;
 ghost use mathlib.Core.Path.{_≡_};
-ghost use Prim.Native.Nat.{_≤_};
 ghost use lib.ListN.{length};
 ghost use Rattle.refusal.specs.Check.{refusal, nowhere};
-ghost use Rattle.packet.specs.Packet.{dataPacketOf, extendedPacketOf, packetOf, cidOf, readingOf};
+ghost use Rattle.packet.specs.Packet.{dataPacketOf, extendedPacketOf, packetOf, cidIn, readingOf};
 ghost use Rattle.packet.specs.Parts.{shownAt, namePlace, valuesPlace, copiedOf, listedAt, universesIn, afterCopy};
 
 // Where the fields start in a datagram.
 const CID_START: usize = 22;
 
-const FRAMING_START: usize = 38;
+pub const FRAMING_START: usize = 38;
 
-const SOURCE_NAME_START: usize = 44;
+pub const SOURCE_NAME_START: usize = 44;
 
 const UNIVERSES_START: usize = 120;
 
-const VALUES_START: usize = 125;
+pub const VALUES_START: usize = 125;
 
 // Where something stands in a datagram.
 pub struct Place {
@@ -134,13 +134,17 @@ fn parse_packet(datagram: &[u8]) -> Packet
     }
 }
 
-fn cid_of(datagram: &[u8]) -> [u8; 16]
-    requires { ⌜ 38 ≤ length (now datagram) ⌝ }
-    ensures { λ r. ⌜ r ≡ cidOf (now (datagram .entry)) ⌝ }
+// The bytes at a datagram's CID, or zeros where it is too short for one.
+pub fn cid(datagram: &[u8]) -> [u8; 16]
+    ensures { λ r. ⌜ r ≡ cidIn (now (datagram .entry)) ⌝ }
 {
-    let mut cid = [0; 16];
-    wire::copy(&mut cid, 0, &datagram[CID_START..FRAMING_START]);
-    cid
+    let mut bytes = [0; 16];
+    wire::copy(
+        &mut bytes,
+        0,
+        wire::part(datagram, CID_START, E131_CID_FIELD_LENGTH),
+    );
+    bytes
 }
 
 // Reads a datagram, whatever it is. No byte of it is copied but the CID.
@@ -153,21 +157,22 @@ pub fn parse(datagram: &[u8]) -> Reading
             packet: Packet::Refused(r),
         },
         Packet::Data(x) => Reading {
-            cid: cid_of(datagram),
+            cid: cid(datagram),
             packet: Packet::Data(x),
         },
         Packet::Synchronization(x) => Reading {
-            cid: cid_of(datagram),
+            cid: cid(datagram),
             packet: Packet::Synchronization(x),
         },
         Packet::Discovery(x) => Reading {
-            cid: cid_of(datagram),
+            cid: cid(datagram),
             packet: Packet::Discovery(x),
         },
     }
 }
 
-fn shown(datagram: &[u8], place: Place) -> &[u8]
+// What stands at a place, or nothing where the place runs past the datagram.
+pub fn shown(datagram: &[u8], place: Place) -> &[u8]
     ensures { λ r. ⌜ now r ≡ shownAt (now (datagram .entry)) place ⌝ }
 {
     let start = place.start;

@@ -1,0 +1,142 @@
+// A whole datagram as the edition of 2009 reads it: data packets only, and neither the synchronization address
+// nor the option to force synchronization.
+use framing::Edition;
+use framing::data::Data;
+use framing::data::OPTIONS_FIELD_INDEX;
+use framing::data::PRIORITY_INDEX;
+use framing::data::SEQ_NUM_INDEX;
+use framing::data::UNIVERSE_INDEX;
+use packet::FRAMING_START;
+use packet::Place;
+use packet::SOURCE_NAME_START;
+use packet::VALUES_START;
+use packet::root::ROOT_LAYER_INDEX;
+use packet::root::Root;
+use refusal::Refusal;
+use wire::constants::E131_PREVIEW_DATA_OPTION_BIT_MASK;
+use wire::constants::E131_STREAM_TERMINATION_OPTION_BIT_MASK;
+ghost use mathlib.Core.Path.{_≡_};
+ghost use Rattle.packet.specs.Parts.{shownAt};
+ghost use Rattle.edition2009.specs.Packet.{fields2009Of, dataPacket2009Of, packet2009Of, reading2009Of};
+ghost use Rattle.edition2009.specs.Parts.{namePlace, valuesPlace};
+
+pub struct DataFields2009 {
+    pub priority: u8,
+    pub sequence_number: u8,
+    pub preview_data: bool,
+    pub stream_terminated: bool,
+    pub universe: u16,
+}
+
+pub struct DataRecord2009 {
+    pub fields: DataFields2009,
+    pub name: Place,
+    pub values: Place,
+}
+
+pub enum Packet2009 {
+    Data(DataRecord2009),
+    Refused(Refusal),
+}
+
+// The sender's CID stands beside what was read; it is sixteen zeros at a refusal.
+pub struct Reading2009 {
+    pub cid: [u8; 16],
+    pub packet: Packet2009,
+}
+
+// The plain fields of the framing layer whose part is p; where it was refused they mean nothing.
+fn fields(p: &[u8]) -> DataFields2009
+    ensures { λ r. ⌜ r ≡ fields2009Of (now (p .entry)) ⌝ }
+{
+    let options = wire::byte_at(p, OPTIONS_FIELD_INDEX);
+    DataFields2009 {
+        priority: wire::byte_at(p, PRIORITY_INDEX),
+        sequence_number: wire::byte_at(p, SEQ_NUM_INDEX),
+        preview_data: options / E131_PREVIEW_DATA_OPTION_BIT_MASK % 2 == 1,
+        stream_terminated: options / E131_STREAM_TERMINATION_OPTION_BIT_MASK % 2 == 1,
+        universe: wire::u16_at(p, UNIVERSE_INDEX),
+    }
+}
+
+// The framing layer, whose part is p.
+fn parse_data(p: &[u8]) -> Packet2009
+    ensures { λ r. ⌜ r ≡ dataPacket2009Of (now (p .entry)) ⌝ }
+{
+    match framing::data::parse(p, Edition::E2009) {
+        Data::Refused(r) => Packet2009::Refused(r),
+        Data::Layer { name, values } => Packet2009::Data(DataRecord2009 {
+            fields: fields(p),
+            name: Place {
+                start: SOURCE_NAME_START,
+                len: name,
+            },
+            values: Place {
+                start: VALUES_START,
+                len: values,
+            },
+        }),
+    }
+}
+
+// A root layer that this edition takes has the vector of a data packet.
+fn parse_packet(datagram: &[u8]) -> Packet2009
+    ensures { λ r. ⌜ r ≡ packet2009Of (now (datagram .entry)) ⌝ }
+{
+    match packet::root::parse(datagram, Edition::E2009) {
+        Root::Refused(r) => Packet2009::Refused(r),
+        Root::Layer { vector: _, end } => {
+            parse_data(&datagram[FRAMING_START..ROOT_LAYER_INDEX + end])
+        }
+    }
+}
+
+// Reads a datagram, whatever it is. No byte of it is copied but the CID.
+pub fn parse(datagram: &[u8]) -> Reading2009
+    ensures { λ r. ⌜ r ≡ reading2009Of (now (datagram .entry)) ⌝ }
+{
+    match parse_packet(datagram) {
+        Packet2009::Refused(r) => Reading2009 {
+            cid: [0; 16],
+            packet: Packet2009::Refused(r),
+        },
+        Packet2009::Data(x) => Reading2009 {
+            cid: packet::cid(datagram),
+            packet: Packet2009::Data(x),
+        },
+    }
+}
+
+fn name_place(packet: Packet2009) -> Place
+    ensures { λ r. ⌜ r ≡ namePlace packet ⌝ }
+{
+    match packet {
+        Packet2009::Data(x) => x.name,
+        Packet2009::Refused(_) => Place { start: 0, len: 0 },
+    }
+}
+
+fn values_place(packet: Packet2009) -> Place
+    ensures { λ r. ⌜ r ≡ valuesPlace packet ⌝ }
+{
+    match packet {
+        Packet2009::Data(x) => x.values,
+        Packet2009::Refused(_) => Place { start: 0, len: 0 },
+    }
+}
+
+// The name, as the part of the datagram that it occupies; empty where there is none.
+pub fn name(datagram: &[u8], reading: Reading2009) -> &[u8]
+    ensures { λ r. ⌜ now r ≡ shownAt (now (datagram .entry)) (namePlace (reading .packet)) ⌝ }
+{
+    let packet = reading.packet;
+    packet::shown(datagram, name_place(packet))
+}
+
+// The values, likewise.
+pub fn values(datagram: &[u8], reading: Reading2009) -> &[u8]
+    ensures { λ r. ⌜ now r ≡ shownAt (now (datagram .entry)) (valuesPlace (reading .packet)) ⌝ }
+{
+    let packet = reading.packet;
+    packet::shown(datagram, values_place(packet))
+}

@@ -1,0 +1,23 @@
+-- Document 01's table, for reading: the places at which each number is told, and the numbers that carry no value.
+use Prim.Native.Nat.{ℕ}
+use Rattle.refusal.specs.declared.Refusal.{Refusal}
+use Rattle.refusal.specs.Check.{Test, _≤?_, _=?_, _and_, _or_, preamble, root, framing, dmp, discovery, universeList}
+
+abbrev pub told : ℕ → ℕ → ℕ → Test
+told number place value =
+    number =? 1 and preamble ≤? place and place ≤? universeList and value =? 0
+    or number =? 2 and (place =? preamble or place =? dmp) and value =? 0
+    or number =? 3 and root ≤? place and place ≤? discovery
+    or number =? 4 and root ≤? place and place ≤? discovery
+    or number =? 5 and (place =? framing or place =? discovery)
+    or number =? 6 and place =? framing and value =? 0
+    or number =? 7 and place =? framing and value =? 0
+    or number =? 8 and place =? framing
+    or number =? 9 and place =? framing
+    or number =? 10 and place =? framing
+    or number =? 11 and place =? discovery and value =? 0
+    or number =? 12 and place =? universeList
+    or number =? 13 and root ≤? place and place ≤? dmp and value =? 0
+
+abbrev pub allowed : Refusal → Test
+allowed r = told (r .number) (r .place) (r .value)
