@@ -1,11 +1,11 @@
 -- Bytes in hex, one after the other. Assumes nothing.
 use Prim.Native.Nat.{ℕ, _+_, _*_, _≤_, _<_}
-use mathlib.Core.Path.{_≡_, refl, sym, ap, _∙_}
+use mathlib.Core.Path.{_≡_, refl}
 use mathlib.Core.List.{List, [], _∷_, _++_}
 use native.Mathlib.Numerals.{add-one}
 use native.Mathlib.Omega.{arith}
-use lib.ListN.{length, take, drop, getD}
-use lib.Seq.{take-suc, take-all}
+use lib.ListN.{length, take, getD}
+use lib.Seq.{take-suc}
 use Rattle.text.specs.Digits.{hexByte, hexBytes, hex}
 
 hexBytes-append : (xs ys : List ℕ) → hexBytes (xs ++ ys) ≡ hexBytes xs ++ hexBytes ys

@@ -2,7 +2,7 @@
 // runs past the end is left out, and the next place is then the end.
 ghost use mathlib.Core.Path.{_≡_};
 ghost use mathlib.Core.List.{_++_};
-ghost use Prim.Native.Nat.{_≤_, _<_};
+ghost use Prim.Native.Nat.{_+_, _<_, min};
 ghost use lib.ListN.{length, drop};
 ghost use Rattle.text.specs.Put.{Put};
 ghost use Rattle.text.specs.Digits.{decimal, hexDigit, hexByte, hex};
@@ -10,17 +10,27 @@ ghost use Rattle.text.specs.Digits.{decimal, hexDigit, hexByte, hex};
 // A u64 has at most 20 digits.
 const MOST_DIGITS: usize = 20;
 
+// A byte in hex has two digits.
+const HEX_BYTE: usize = 2;
+
+// The place behind n bytes at `at`, or the end where they run past it.
+fn place_behind(end: usize, at: usize, n: usize) -> usize
+    ensures { λ r. ⌜ r ≡ min (at + n) end ⌝ }
+{
+    if end < at {
+        return end;
+    }
+    if end - at < n {
+        return end;
+    }
+    at + n
+}
+
 pub fn put(out: &mut [u8], at: usize, s: &[u8]) -> usize
     ensures { λ r. ⌜ Put (now (out .entry)) (now (out .exit)) at r (now (s .entry)) ⌝ }
 {
     wire::copy(out, at, s);
-    if out.len() < at {
-        return out.len();
-    }
-    if out.len() - at < s.len() {
-        return out.len();
-    }
-    at + s.len()
+    place_behind(out.len(), at, s.len())
 }
 
 // Spells n at the end of `digits`, the last digit first, and answers where it starts.
@@ -58,16 +68,19 @@ pub fn put_field(out: &mut [u8], at: usize, word: &[u8], n: u64) -> usize
 
 fn hex_digit(x: u8) -> u8
     requires { ⌜ x < 16 ⌝ }
-    ensures { λ r. ⌜ r ≡ hexDigit x ⌝ }
+    ensures { λ r. ⌜ (r ≡ hexDigit x) × (r < 0x100) ⌝ }
 {
     if x < 10 { b'0' + x } else { b'a' + (x - 10) }
 }
 
+// As one number of two bytes: a copy of two bytes would cost more.
 fn put_hex_byte(out: &mut [u8], at: usize, b: u8) -> usize
     ensures { λ r. ⌜ Put (now (out .entry)) (now (out .exit)) at r (hexByte b) ⌝ }
 {
-    let pair = [hex_digit(b / 16), hex_digit(b % 16)];
-    put(out, at, &pair)
+    let high = hex_digit(b / 16) as u16;
+    let low = hex_digit(b % 16) as u16;
+    wire::put_u16(out, at, high * 0x100 + low);
+    place_behind(out.len(), at, HEX_BYTE)
 }
 
 // Two digits a byte, in lower case; `-` where there are no bytes.

@@ -1,11 +1,7 @@
-use Rattle.text.proofs.Puts.{put-then}
 use borrow.Author.Needs.{needs}
+use Rattle.text.proofs.Puts.{put-then}
 use Rattle.text.proofs.put_field.Statement.{statement}
 use Rattle.text.proofs.put_field.Tie as tie
-use Rattle.text.proofs.put_field.Reads as reads
-use Rattle.text.proofs.put_field.Lts as lts
-use Rattle.text.proofs.put.Reads as put-reads
-use Rattle.text.proofs.put_decimal.Reads as put-decimal-reads
 
 put-requires : tie.Need-put-requires
 put-requires c κs = search needs

@@ -1,23 +1,17 @@
+use Prim.Native.Nat.{ℕ, _≤_, _<_, _-_}
+use mathlib.Core.List.{List}
+use mathlib.Core.Path.{_∙_, ap, _≡_, refl}
 use native.Mathlib.Omega.{arith}
 use borrow.Author.Needs.{needs}
-use Prim.Native.Nat.{ℕ}
-use mathlib.Core.List.{List}
-use mathlib.Core.Path.{_∙_, ap}
-use Prim.Native.Nat.{_≤_, _<_, _-_}
-use mathlib.Core.Path.{_≡_, refl, sym}
 use denote.Ref.{now}
 use lib.ListN.{length, take}
 use lib.Seq.{take-all, length-sets}
 use Rattle.text.specs.Put.{Put}
-use Rattle.text.specs.Digits.{hexBytes, hex}
+use Rattle.text.specs.Digits.{hexBytes}
 use Rattle.text.proofs.Hex.{hex-more, hex-first, hex-some, hex-none}
 use Rattle.text.proofs.Puts.{put-then}
 use Rattle.text.proofs.put_hex.Statement.{statement}
 use Rattle.text.proofs.put_hex.Tie as tie
-use Rattle.text.proofs.put_hex.Reads as reads
-use Rattle.text.proofs.put_hex.Lts as lts
-use Rattle.text.proofs.put.Reads as put-reads
-use Rattle.text.proofs.put_hex_byte.Reads as put-hex-byte-reads
 
 abbrev Inv-loop : tie.InvT-loop
 Inv-loop out₀ at s next₀ i₀ out next i = (1 ≤ i) × (i ≤ length s) × (length out ≡ length out₀) × ((l : List ℕ) (p : ℕ) → Put l out₀ p next₀ (hexBytes (take 1 s)) → Put l out p next (hexBytes (take i s)))

@@ -1,15 +1,12 @@
-use native.Mathlib.Omega.{arith}
-use borrow.Author.Needs.{needs}
-use Prim.Native.Nat.{_≤_, _<_, _+_, _%_}
-use mathlib.Core.Path.{_≡_}
+use Prim.Native.Nat.{_<_, _+_, _%_}
+use mathlib.Core.Path.{_≡_, sym, _∙_}
 use mathlib.Core.List.{[], append-nil}
+use native.Mathlib.Omega.{arith}
 use lib.ListN.{length, drop, length-set, drop-of-length-le}
 use Rattle.text.proofs.Decimals.{tens}
 use Rattle.text.proofs.Spelled.{Spelled, places-left, tenth-fits, one-more, last-one}
 use Rattle.text.proofs.spell.Statement.{statement}
 use Rattle.text.proofs.spell.Tie as tie
-use Rattle.text.proofs.spell.Reads as reads
-use Rattle.text.proofs.spell.Lts as lts
 
 abbrev Inv-loop : tie.InvT-loop
 Inv-loop digits₀ n at₀ rest₀ digits at rest = (at < 20) × (length digits ≡ 20) × (rest < tens (at + 1)) × Spelled n rest at digits
@@ -43,7 +40,7 @@ loop-again : tie.Need-loop-again Inv-loop μ-loop
 loop-again c = let l = c .before .loop in
     let h = places-left (l .at) (l .rest) (omega arith) (l .inv .2) in (
       omega arith,
-      omega (arith, length-set (l .digits) (l .at) (48 + l .rest % 10)),
+      simp length-set (l .inv .1),
       tenth-fits (l .at) (l .rest) h (l .inv .2),
       one-more (c .before .before .args .n) (l .rest) (l .at) (l .digits) (omega arith) (l .inv .3) (omega arith) h,
     )
@@ -58,7 +55,7 @@ slice-write-digits-2 : tie.Need-slice-write-digits-2 Inv-loop μ-loop
 slice-write-digits-2 c = omega arith
 
 same-length : tie.Need-same-length Inv-loop μ-loop
-same-length c = let l = c .before .loop in omega (arith, length-set (l .digits) (l .at) (48 + l .rest), l .inv .1, c .before .before .pre)
+same-length c = simp length-set (c .before .loop .inv .1 ∙ sym (c .before .before .pre))
 
 returns : tie.Need-returns Inv-loop μ-loop
 returns c = let l = c .before .loop in

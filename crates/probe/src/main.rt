@@ -1,0 +1,78 @@
+// Answers each request of a capture in a line, so that the library can be compared with another one: an
+// entry's first byte says what is asked, and the bytes behind it are what it is asked of.
+mod address;
+mod read;
+
+use entries::Next;
+use entries::State;
+use entries::Unread;
+ghost use Prim.Native.Nat.{_<_};
+
+// The requests.
+const READ: u8 = 0;
+
+const ADDRESS: u8 = 4;
+
+// A count that no input reaches.
+const MOST_ENTRIES: u64 = 0xffff_ffff_ffff_ffff;
+
+const LONGEST_ENTRY: usize = 8192;
+
+const BLOCK: usize = 65536;
+
+fn put_malformed(out: &mut [u8], at: usize, n: u64) -> usize {
+    let next = text::put_decimal(out, at, n);
+    text::put(out, next, b" malformed\n")
+}
+
+// The answer to request n.
+fn put_answer(out: &mut [u8], at: usize, n: u64, request: &[u8]) -> usize {
+    if request.len() == 0 {
+        return put_malformed(out, at, n);
+    }
+    let asked = wire::part(request, 1, request.len() - 1);
+    match request[0] {
+        READ => read::put_reading(out, at, n, asked),
+        ADDRESS => {
+            if asked.len() < 2 {
+                return put_malformed(out, at, n);
+            }
+            address::put_address(out, at, n, wire::u16_at(asked, 0))
+        }
+        _ => put_malformed(out, at, n),
+    }
+}
+
+// What follows n entries.
+fn turn(block: &mut [u8], entry: &mut [u8], out: &mut [u8], state: State, n: u64) -> State
+    requires { ⌜ n < 0xffff_ffff_ffff_ffff ⌝ }
+{
+    let unread = state.unread;
+    let at = state.at;
+    let step = entries::next_entry(block, entry, unread);
+    let next = step.next;
+    match next {
+        Next::Entry { len } => {
+            let end = put_answer(out, at, n + 1, wire::part(entry, 0, len));
+            entries::go_on(out, end, step.unread)
+        }
+        Next::Stop(ending) => entries::finish(out, at, ending, n),
+        Next::Failed => entries::give_up(out, at),
+    }
+}
+
+fn main() {
+    let mut block = [0; BLOCK];
+    let mut entry = [0; LONGEST_ENTRY];
+    let mut out = [0; BLOCK];
+    let mut state = State {
+        unread: Unread { start: 0, len: 0 },
+        at: 0,
+        going: true,
+    };
+    let mut n = 0;
+    while state.going && n < MOST_ENTRIES {
+        state = turn(&mut block, &mut entry, &mut out, state, n);
+        n += 1;
+    }
+}
