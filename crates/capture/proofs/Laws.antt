@@ -1,5 +1,5 @@
 -- Each length up to 8192 has one form: it is read back, whatever follows, and nothing else is read as a length. Assumes nothing.
-use Prim.Native.Nat.{ℕ, _+_, _-_, _/_, _%_, _≤_, _<_, _*_}
+use Prim.Native.Nat.{_*_, ℕ, _+_, _-_, _/_, _%_, _≤_, _<_}
 use mathlib.Core.Path.{_≡_, refl, sym, ap, _∙_}
 use mathlib.Core.List.{List, [], _∷_, _++_}
 use native.Mathlib.Omega.{arith}

@@ -6,7 +6,6 @@ ghost use mathlib.Core.Path.{_≡_};
 ghost use Prim.Native.Nat.{_+_, _≤_};
 ghost use lib.ListN.{length, take, drop};
 ghost use lib.Seq.{sets};
-ghost use Rattle.wire.specs.Fields.{partOf};
 ghost use Rattle.capture.specs.Entry.{frontOf};
 ghost use Rattle.entries.specs.Entries.{waitsAt, unreadIn, Arrived, More, Took, Taken, roomIn, over};
 ghost use Rattle.line.specs.Lines.{lastLine};

@@ -106,7 +106,7 @@ fn put_discovery(out: &mut [u8], at: usize, n: u64, name: &[u8], x: DiscoveryRec
     text::put(out, next, b"\n")
 }
 
-fn put_refusal(out: &mut [u8], at: usize, refusal: Refusal) -> usize
+pub fn put_refusal(out: &mut [u8], at: usize, refusal: Refusal) -> usize
     ensures { λ r. ⌜ Put (now (out .entry)) (now (out .exit)) at r (refusalText refusal) ⌝ }
 {
     let next = text::put_field(out, at, b" refused ", refusal.number as u64);

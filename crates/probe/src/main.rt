@@ -2,6 +2,7 @@
 // entry's first byte says what is asked, and the bytes behind it are what it is asked of.
 mod address;
 mod read;
+mod write;
 
 use entries::Next;
 use entries::State;
@@ -10,6 +11,12 @@ ghost use Prim.Native.Nat.{_<_};
 
 // The requests.
 const READ: u8 = 0;
+
+const WRITE_DATA: u8 = 1;
+
+const WRITE_SYNCHRONIZATION: u8 = 2;
+
+const WRITE_DISCOVERY: u8 = 3;
 
 const ADDRESS: u8 = 4;
 
@@ -25,6 +32,21 @@ fn put_malformed(out: &mut [u8], at: usize, n: u64) -> usize {
     text::put(out, next, b" malformed\n")
 }
 
+// The answer to a request of a packet, into a buffer as long as was asked.
+fn put_written(out: &mut [u8], at: usize, n: u64, kind: u8, asked: &[u8]) -> usize {
+    let room = write::room(asked);
+    if write::MOST_ROOM < room {
+        return put_malformed(out, at, n);
+    }
+    let mut space = [write::UNTOUCHED; write::MOST_ROOM];
+    let buf = &mut space[0..room];
+    match kind {
+        WRITE_DATA => write::put_data(out, at, n, asked, buf),
+        WRITE_SYNCHRONIZATION => write::put_synchronization(out, at, n, asked, buf),
+        _ => write::put_discovery(out, at, n, asked, buf),
+    }
+}
+
 // The answer to request n.
 fn put_answer(out: &mut [u8], at: usize, n: u64, request: &[u8]) -> usize {
     if request.len() == 0 {
@@ -33,6 +55,9 @@ fn put_answer(out: &mut [u8], at: usize, n: u64, request: &[u8]) -> usize {
     let asked = wire::part(request, 1, request.len() - 1);
     match request[0] {
         READ => read::put_reading(out, at, n, asked),
+        WRITE_DATA => put_written(out, at, n, WRITE_DATA, asked),
+        WRITE_SYNCHRONIZATION => put_written(out, at, n, WRITE_SYNCHRONIZATION, asked),
+        WRITE_DISCOVERY => put_written(out, at, n, WRITE_DISCOVERY, asked),
         ADDRESS => {
             if asked.len() < 2 {
                 return put_malformed(out, at, n);
