@@ -18,5 +18,6 @@ pub mod DiscoveryOnly
 pub mod Discovery
 pub mod Edition2009
 pub mod Settled
+pub mod SettledText
 pub mod Exactly
 pub mod Definitions
