@@ -17,12 +17,12 @@ use Rattle.framing.specs.Bytes.{framingHead, optionsOf, dataFramingBytes}
 use Rattle.framing.specs.declared.data.DataFields.{DataFields}
 use Rattle.packet.specs.Packet.{place, cidOf, packetOf, readingOf, withCid}
 use Rattle.packet.specs.Parts.{shownAt}
-use Rattle.packet.specs.Writing.{rootHead, countCheck, dataWriteChecks, dataLength, dataBytes, packedOf, afterPack}
 use Rattle.packet.specs.declared.Packet.{Packet}
 use Rattle.packet.specs.declared.Packet.the-variants.{Data}
 use Rattle.packet.specs.declared.Reading.{Reading}
-use Rattle.packet.specs.declared.pack.Packed.the-variants.{Length, Refused}
-use Rattle.packet.proofs.Writing.{data-long}
+use Rattle.pack.specs.Writing.{rootHead, countCheck, dataWriteChecks, dataLength, dataBytes, packedOf, afterPack}
+use Rattle.pack.specs.declared.Packed.the-variants.{Length, Refused}
+use Rattle.pack.proofs.Writing.{data-long}
 use Rattle.demands.specs.Content.{dataContent, contentOf, meaning}
 use Rattle.demands.specs.Limits.{Bytes, ReadableData}
 use Rattle.demands.specs.Ignored.{AlikeData}

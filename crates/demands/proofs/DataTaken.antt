@@ -15,16 +15,16 @@ use Rattle.pdu.specs.declared.VectorLength.the-variants.{Four}
 use Rattle.name.specs.Name.{zeroAt, textOf}
 use Rattle.dmp.specs.Layer.{countOf}
 use Rattle.framing.specs.Data.{nameField, dmpPart, dataChecks, fieldsOf}
-use Rattle.framing.specs.Extended.{extendedChecks}
 use Rattle.framing.specs.declared.Edition.the-variants.{E2018}
 use Rattle.framing.specs.declared.data.DataFields.{DataFields}
-use Rattle.packet.specs.Root.{preambleChecks, rootChecks, rootPart}
+use Rattle.extended.specs.Extended.{extendedChecks}
+use Rattle.root.specs.Root.{preambleChecks, rootChecks, rootPart}
+use Rattle.root.proofs.Laws.{within}
 use Rattle.packet.specs.Packet.{place, rootVector, framingPart, framingChecks, packetChecks, recordOf, dataRecord, extendedRecord, synchronizationRecord, discoveryRecord, cidOf, packetOf, withCid, readingOf}
 use Rattle.packet.specs.Parts.{shownAt}
 use Rattle.packet.specs.declared.DataRecord.{DataRecord}
 use Rattle.packet.specs.declared.Packet.{Packet}
 use Rattle.packet.specs.declared.Packet.the-variants.{Data, Synchronization, Discovery, Refused}
-use Rattle.packet.proofs.Laws.{within}
 use Rattle.demands.specs.Content.{dataContent, contentOf, meaning}
 use Rattle.demands.specs.Limits.{Bytes}
 use Rattle.demands.proofs.Segments.{bytes-drop}

@@ -18,9 +18,9 @@ use Rattle.discovery.specs.Universes.{listChecks, universes, universeBytes, ord
 use Rattle.discovery.proofs.Laws.{bytes-length}
 use Rattle.framing.specs.Bytes.{framingHead}
 use Rattle.framing.specs.Data.{nameField}
-use Rattle.framing.specs.Synchronization.{synchronizationChecks}
-use Rattle.framing.specs.UniverseDiscovery.{discoveryPart, startChecks, discoveryFramingChecks}
-use Rattle.framing.specs.Extended.{kindChecks, extendedChecks}
+use Rattle.extended.specs.Synchronization.{synchronizationChecks}
+use Rattle.extended.specs.UniverseDiscovery.{discoveryPart, startChecks, discoveryFramingChecks}
+use Rattle.extended.specs.Extended.{kindChecks, extendedChecks}
 use Rattle.packet.specs.declared.Packet.{Packet}
 use Rattle.packet.specs.declared.Packet.the-variants.{Discovery, Refused}
 use Rattle.packet.specs.Packet.{place, extendedRecord, extendedPacketOf}

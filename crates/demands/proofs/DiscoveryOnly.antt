@@ -17,16 +17,16 @@ use Rattle.discovery.specs.Layer as layer
 use Rattle.discovery.specs.Universes.{universes, allUniverses, listChecks}
 use Rattle.discovery.proofs.Laws.{universes-length}
 use Rattle.framing.specs.Data.{nameField}
-use Rattle.framing.specs.UniverseDiscovery.{discoveryPart, startChecks, discoveryFramingChecks}
-use Rattle.framing.specs.Extended.{extendedChecks}
 use Rattle.framing.specs.declared.Edition.the-variants.{E2018}
-use Rattle.packet.specs.Root.{rootPart}
+use Rattle.extended.specs.UniverseDiscovery.{discoveryPart, startChecks, discoveryFramingChecks}
+use Rattle.extended.specs.Extended.{extendedChecks}
+use Rattle.root.specs.Root.{rootPart}
+use Rattle.root.proofs.Laws.{within}
 use Rattle.packet.specs.Packet.{place, rootVector, framingPart, discoveryRecord, extendedRecord, packetOf, cidOf}
 use Rattle.packet.specs.Parts.{shownAt, listedAt}
-use Rattle.packet.specs.Writing.{discoveryBytes, discoveryLength}
 use Rattle.packet.specs.declared.DiscoveryRecord.{DiscoveryRecord}
 use Rattle.packet.specs.declared.Packet.the-variants.{Discovery}
-use Rattle.packet.proofs.Laws.{within}
+use Rattle.pack.specs.Writing.{discoveryBytes, discoveryLength}
 use Rattle.demands.specs.Ignored.{AlikeDiscovery}
 use Rattle.demands.specs.Limits.{Bytes}
 use Rattle.demands.proofs.Segments.{bytes-drop}

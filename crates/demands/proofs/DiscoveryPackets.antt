@@ -15,11 +15,12 @@ use Rattle.discovery.specs.declared.DiscoveryFields.{DiscoveryFields}
 use Rattle.discovery.specs.Layer as layer
 use Rattle.discovery.specs.Universes.{allUniverses, universeBytes}
 use Rattle.discovery.proofs.Laws.{bytes-length}
-use Rattle.framing.specs.Bytes.{framingHead, discoveryFramingBytes}
+use Rattle.framing.specs.Bytes.{framingHead}
+use Rattle.extended.specs.Bytes.{discoveryFramingBytes}
 use Rattle.packet.specs.Packet.{place, packetOf, readingOf}
 use Rattle.packet.specs.Parts.{shownAt, listedAt}
-use Rattle.packet.specs.Writing.{discoveryBytes, discoveryLength}
-use Rattle.packet.proofs.Writing.{discovery-long}
+use Rattle.pack.specs.Writing.{discoveryBytes, discoveryLength}
+use Rattle.pack.proofs.Writing.{discovery-long}
 use Rattle.name.proofs.Laws.{bytes-64}
 use Rattle.demands.specs.Content.{discoveryContent, meaning}
 use Rattle.demands.specs.Ignored.{AlikeDiscovery}

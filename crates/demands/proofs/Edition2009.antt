@@ -16,14 +16,14 @@ use Rattle.pdu.specs.declared.VectorLength.the-variants.{Four}
 use Rattle.discovery.specs.declared.DiscoveryFields.{DiscoveryFields}
 use Rattle.framing.specs.declared.Edition.the-variants.{E2018}
 use Rattle.framing.specs.declared.data.DataFields.{DataFields}
-use Rattle.framing.specs.declared.synchronization.SynchronizationFields.{SynchronizationFields}
-use Rattle.packet.specs.Root.{preambleChecks, rootPart, vectorChecks, lengthChecks, cidChecks, bodyChecks, rootChecks}
+use Rattle.extended.specs.declared.synchronization.SynchronizationFields.{SynchronizationFields}
+use Rattle.root.specs.Root.{preambleChecks, rootPart, vectorChecks, lengthChecks, cidChecks, bodyChecks, rootChecks}
 use Rattle.packet.specs.Packet.{rootVector, framingPart, packetChecks, recordOf, dataRecord, synchronizationRecord, discoveryRecord, extendedRecord, packetOf, withCid, readingOf}
-use Rattle.packet.specs.Writing.{dataBytes, dataLength, synchronizationBytes, synchronizationLength, discoveryBytes, discoveryLength, afterPack}
 use Rattle.packet.specs.declared.DataRecord.{DataRecord}
 use Rattle.packet.specs.declared.Packet.{Packet}
 use Rattle.packet.specs.declared.Packet.the-variants.{Data, Synchronization, Discovery, Refused}
-use Rattle.packet.specs.declared.pack.Packed.the-variants.{Length}
+use Rattle.pack.specs.Writing.{dataBytes, dataLength, synchronizationBytes, synchronizationLength, discoveryBytes, discoveryLength, afterPack}
+use Rattle.pack.specs.declared.Packed.the-variants.{Length}
 use Rattle.edition2009.specs.Editions.{droppedFields, droppedReading, beforeVector}
 use Rattle.edition2009.specs.Packet.{reading2009Of}
 use Rattle.edition2009.specs.declared.Reading2009.{Reading2009}

@@ -6,8 +6,8 @@ use mathlib.Core.List.{List}
 use lib.ListN.{length}
 use Rattle.discovery.specs.declared.DiscoveryFields.{DiscoveryFields}
 use Rattle.framing.specs.declared.data.DataFields.{DataFields}
-use Rattle.framing.specs.declared.synchronization.SynchronizationFields.{SynchronizationFields}
-use Rattle.packet.specs.Writing.{dataBytes, dataLength, synchronizationBytes, synchronizationLength, discoveryBytes, discoveryLength}
+use Rattle.extended.specs.declared.synchronization.SynchronizationFields.{SynchronizationFields}
+use Rattle.pack.specs.Writing.{dataBytes, dataLength, synchronizationBytes, synchronizationLength, discoveryBytes, discoveryLength}
 use Rattle.demands.specs.Content.{dataContent, synchronizationContent, discoveryContent, meaning}
 use Rattle.demands.specs.Limits.{Bytes, ReadableData, ReadableSynchronization, ReadableDiscovery}
 use Rattle.demands.specs.Ignored.{AlikeData, AlikeSynchronization, AlikeDiscovery}

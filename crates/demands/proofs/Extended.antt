@@ -14,10 +14,10 @@ use Rattle.pdu.specs.Head.{headChecks, lengthOf, vectorOf, flagsField}
 use Rattle.pdu.specs.declared.VectorLength.the-variants.{Four}
 use Rattle.framing.specs.declared.Edition.the-variants.{E2018}
 use Rattle.framing.specs.Bytes.{framingHead}
-use Rattle.framing.specs.Extended.{kindChecks, extendedChecks}
-use Rattle.framing.specs.Synchronization.{synchronizationChecks}
-use Rattle.framing.specs.UniverseDiscovery.{discoveryFramingChecks}
-use Rattle.packet.specs.Root.{preambleChecks, rootPart, vectorChecks, lengthChecks, cidChecks, bodyChecks, rootChecks}
+use Rattle.extended.specs.Extended.{kindChecks, extendedChecks}
+use Rattle.extended.specs.Synchronization.{synchronizationChecks}
+use Rattle.extended.specs.UniverseDiscovery.{discoveryFramingChecks}
+use Rattle.root.specs.Root.{preambleChecks, rootPart, vectorChecks, lengthChecks, cidChecks, bodyChecks, rootChecks}
 use Rattle.packet.specs.declared.DataRecord.{DataRecord}
 use Rattle.packet.specs.declared.SynchronizationRecord.{SynchronizationRecord}
 use Rattle.packet.specs.declared.DiscoveryRecord.{DiscoveryRecord}

@@ -3,7 +3,7 @@ use Prim.Native.Nat.{ℕ}
 use mathlib.Core.Path.{_≡_, refl, ap}
 use mathlib.Core.List.{List}
 use native.Mathlib.Omega.{arith}
-use Rattle.framing.specs.declared.synchronization.SynchronizationFields.{SynchronizationFields}
+use Rattle.extended.specs.declared.synchronization.SynchronizationFields.{SynchronizationFields}
 use Rattle.discovery.specs.declared.DiscoveryFields.{DiscoveryFields}
 use Rattle.packet.specs.declared.SynchronizationRecord.{SynchronizationRecord}
 use Rattle.packet.specs.declared.DiscoveryRecord.{DiscoveryRecord}

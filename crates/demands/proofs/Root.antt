@@ -13,11 +13,12 @@ use Rattle.refusal.proofs.Tests.{Holds, chosen, passed-over, decide}
 use Rattle.refusal.proofs.Laws.{All, all-hold}
 use Rattle.pdu.specs.Head.{flagsOf, lengthOf, flagsAndLength, flagsField}
 use Rattle.framing.specs.declared.Edition.the-variants.{E2018}
-use Rattle.packet.specs.Root.{preambleChecks, rootChecks, rootPart, rootOf}
+use Rattle.root.specs.Root.{preambleChecks, rootChecks, rootPart, rootOf}
+use Rattle.root.specs.declared.Root.the-variants as layer
+use Rattle.root.proofs.Laws.{within}
 use Rattle.packet.specs.Packet.{rootVector, framingPart, cidOf, packetOf, dataPacketOf, extendedPacketOf}
-use Rattle.packet.specs.Writing.{rootHead}
-use Rattle.packet.specs.declared.root.Root.the-variants as layer
-use Rattle.packet.proofs.Laws.{afterRoot, by-root, within}
+use Rattle.packet.proofs.Laws.{afterRoot, by-root}
+use Rattle.pack.specs.Writing.{rootHead}
 use Rattle.demands.specs.Limits.{Bytes}
 use Rattle.demands.proofs.Segments.{cuts, join-cuts, field16, field32, u32-drop, bytes-drop, flags-back}
 

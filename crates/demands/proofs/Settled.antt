@@ -16,22 +16,23 @@ use Rattle.dmp.specs.Layer.{dmpOf, dmpBytes}
 use Rattle.discovery.specs.Universes.{allUniverses, orderChecks}
 use Rattle.discovery.specs.Layer as discoveryLayer
 use Rattle.discovery.specs.declared.DiscoveryFields.{DiscoveryFields}
-use Rattle.framing.specs.Bytes.{dataFramingBytes, synchronizationFramingBytes, discoveryFramingBytes}
+use Rattle.framing.specs.Bytes.{framingHead, dataFramingBytes}
 use Rattle.framing.specs.Data.{dataOf, fieldsOf}
-use Rattle.framing.specs.Synchronization.{synchronizationOf}
-use Rattle.framing.specs.UniverseDiscovery.{discoveryFramingOf}
-use Rattle.framing.specs.Extended.{extendedOf}
 use Rattle.framing.specs.declared.Edition.{Edition}
 use Rattle.framing.specs.declared.data.DataFields.{DataFields}
-use Rattle.framing.specs.declared.synchronization.SynchronizationFields.{SynchronizationFields}
-use Rattle.packet.specs.Root.{rootOf}
+use Rattle.extended.specs.Bytes.{synchronizationFramingBytes, discoveryFramingBytes}
+use Rattle.extended.specs.Synchronization.{synchronizationOf}
+use Rattle.extended.specs.UniverseDiscovery.{discoveryFramingOf}
+use Rattle.extended.specs.Extended.{extendedOf}
+use Rattle.extended.specs.declared.synchronization.SynchronizationFields.{SynchronizationFields}
+use Rattle.root.specs.Root.{rootOf}
 use Rattle.packet.specs.Packet.{cidIn, packetOf, readingOf}
 use Rattle.packet.specs.Parts.{shownAt, namePlace, valuesPlace, copiedOf, universesIn, afterCopy}
-use Rattle.packet.specs.Writing.{dataBytes, synchronizationBytes, discoveryBytes, dataLength, synchronizationLength, discoveryLength, dataWriteChecks, synchronizationWriteChecks, discoveryWriteChecks, packedOf, afterPack}
 use Rattle.packet.specs.declared.Place.{Place}
 use Rattle.packet.specs.declared.Reading.{Reading}
 use Rattle.packet.specs.declared.Copied.{Copied}
-use Rattle.packet.specs.declared.pack.Packed.{Packed}
+use Rattle.pack.specs.Writing.{dataBytes, synchronizationBytes, discoveryBytes, dataLength, synchronizationLength, discoveryLength, dataWriteChecks, synchronizationWriteChecks, discoveryWriteChecks, packedOf, afterPack}
+use Rattle.pack.specs.declared.Packed.{Packed}
 use Rattle.edition2009.specs.Packet.{reading2009Of}
 use Rattle.edition2009.specs.Parts as old
 use Rattle.edition2009.specs.declared.Reading2009.{Reading2009}
@@ -131,6 +132,9 @@ module _ (p buf : List ℕ) (at : ℕ) where
   pub discovery-pack : (f : DiscoveryFields) (us : List ℕ) → Settled (sets buf at (discoveryLayer.discoveryBytes f us))
   discovery-pack f us = settled
 
+  pub put-head : (len vector : ℕ) → Settled (sets buf at (framingHead len vector))
+  put-head len vector = settled
+
   pub data-parse : (edition : Edition) → Settled (dataOf edition p)
   data-parse edition = settled
 
@@ -155,7 +159,7 @@ module _ (p buf : List ℕ) (at : ℕ) where
   pub extended-parse : (whole : ℕ) → Settled (extendedOf whole p)
   extended-parse whole = settled
 
--- packet
+-- whole datagrams, read and written
 module _ (d : List ℕ) where
   pub root-parse : (edition : Edition) → Settled (rootOf edition d)
   root-parse edition = settled

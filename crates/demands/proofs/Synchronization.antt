@@ -9,19 +9,20 @@ use Rattle.wire.specs.Fields.{u16At, u32At, byteAt, be16}
 use Rattle.refusal.specs.Check.{choose, framing}
 use Rattle.refusal.proofs.Laws.{All, all-hold}
 use Rattle.pdu.specs.Head.{lengthOf}
-use Rattle.framing.specs.Bytes.{framingHead, synchronizationFramingBytes}
-use Rattle.framing.specs.Extended.{extendedChecks}
-use Rattle.framing.specs.declared.synchronization.SynchronizationFields.{SynchronizationFields}
+use Rattle.framing.specs.Bytes.{framingHead}
+use Rattle.framing.specs.declared.Edition.the-variants.{E2018}
+use Rattle.extended.specs.Bytes.{synchronizationFramingBytes}
+use Rattle.extended.specs.Extended.{extendedChecks}
+use Rattle.extended.specs.declared.synchronization.SynchronizationFields.{SynchronizationFields}
+use Rattle.root.specs.Root.{rootPart}
+use Rattle.root.proofs.Laws.{within}
 use Rattle.packet.specs.declared.SynchronizationRecord.{SynchronizationRecord}
 use Rattle.packet.specs.declared.Packet.{Packet}
 use Rattle.packet.specs.declared.Packet.the-variants as packet
 use Rattle.packet.specs.Packet.{extendedRecord, extendedPacketOf, readingOf, packetOf, cidOf, framingPart}
-use Rattle.packet.specs.Root.{rootPart}
-use Rattle.framing.specs.declared.Edition.the-variants.{E2018}
-use Rattle.packet.proofs.Laws.{within}
-use Rattle.packet.proofs.Writing.{synchronization-long}
-use Rattle.packet.specs.Writing.{synchronizationBytes, synchronizationLength, synchronizationWriteChecks, packedOf, afterPack}
-use Rattle.packet.specs.declared.pack.Packed.the-variants.{Length, Refused}
+use Rattle.pack.proofs.Writing.{synchronization-long}
+use Rattle.pack.specs.Writing.{synchronizationBytes, synchronizationLength, synchronizationWriteChecks, packedOf, afterPack}
+use Rattle.pack.specs.declared.Packed.the-variants.{Length, Refused}
 use Rattle.demands.specs.Limits.{Bytes, ReadableSynchronization}
 use Rattle.demands.specs.Content.{synchronizationContent, meaning}
 use Rattle.demands.specs.Ignored.{AlikeSynchronization}

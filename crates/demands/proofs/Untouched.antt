@@ -11,11 +11,11 @@ use Rattle.refusal.specs.Check.{Check}
 use Rattle.refusal.proofs.Laws.{found}
 use Rattle.discovery.specs.declared.DiscoveryFields.{DiscoveryFields}
 use Rattle.framing.specs.declared.data.DataFields.{DataFields}
-use Rattle.framing.specs.declared.synchronization.SynchronizationFields.{SynchronizationFields}
-use Rattle.packet.specs.Writing.{roomCheck, dataBytes, synchronizationBytes, discoveryBytes, dataLength, synchronizationLength, discoveryLength, dataWriteChecks, synchronizationWriteChecks, discoveryWriteChecks, packedOf, afterPack}
-use Rattle.packet.specs.declared.pack.Packed.{Packed}
-use Rattle.packet.specs.declared.pack.Packed.the-variants.{Length, Refused}
-use Rattle.packet.proofs.Writing.{data-long, synchronization-long, discovery-long}
+use Rattle.extended.specs.declared.synchronization.SynchronizationFields.{SynchronizationFields}
+use Rattle.pack.specs.Writing.{roomCheck, dataBytes, synchronizationBytes, discoveryBytes, dataLength, synchronizationLength, discoveryLength, dataWriteChecks, synchronizationWriteChecks, discoveryWriteChecks, packedOf, afterPack}
+use Rattle.pack.specs.declared.Packed.{Packed}
+use Rattle.pack.specs.declared.Packed.the-variants.{Length, Refused}
+use Rattle.pack.proofs.Writing.{data-long, synchronization-long, discovery-long}
 
 -- A refused write leaves the buffer untouched.
 pub refused-untouched : (p : Packed) (r : Refusal) (packet buf : List ℕ) → p ≡ Refused r → afterPack p packet buf ≡ buf

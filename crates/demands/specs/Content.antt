@@ -5,7 +5,7 @@ use mathlib.Core.List.{List}
 use Rattle.refusal.specs.declared.Refusal.{Refusal}
 use Rattle.discovery.specs.declared.DiscoveryFields.{DiscoveryFields}
 use Rattle.framing.specs.declared.data.DataFields.{DataFields}
-use Rattle.framing.specs.declared.synchronization.SynchronizationFields.{SynchronizationFields}
+use Rattle.extended.specs.declared.synchronization.SynchronizationFields.{SynchronizationFields}
 use Rattle.packet.specs.declared.Packet.{Packet}
 use Rattle.packet.specs.declared.Packet.the-variants as packet
 use Rattle.packet.specs.declared.Reading.{Reading}

@@ -8,7 +8,7 @@ use Rattle.name.specs.Name.{writtenNameChecks}
 use Rattle.discovery.specs.Universes.{orderChecks}
 use Rattle.discovery.specs.declared.DiscoveryFields.{DiscoveryFields}
 use Rattle.framing.specs.declared.data.DataFields.{DataFields}
-use Rattle.framing.specs.declared.synchronization.SynchronizationFields.{SynchronizationFields}
+use Rattle.extended.specs.declared.synchronization.SynchronizationFields.{SynchronizationFields}
 
 -- lists whose elements are bytes, or numbers of 16 bits
 abbrev pub Bytes : List ℕ → Type 0

@@ -5,7 +5,6 @@ use refusal::Refusal;
 use wire::constants::E131_DATA_PACKET_DMP_LAYER_ADDRESS_INCREMENT;
 use wire::constants::E131_DATA_PACKET_DMP_LAYER_FIRST_PROPERTY_FIELD;
 use wire::constants::E131_DMP_LAYER_ADDRESS_DATA_FIELD;
-use wire::constants::E131_PDU_FLAGS;
 use wire::constants::UNIVERSE_CHANNEL_CAPACITY;
 use wire::constants::VECTOR_DMP_SET_PROPERTY;
 ghost use mathlib.Core.Path.{_≡_};

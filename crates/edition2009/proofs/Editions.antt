@@ -17,8 +17,8 @@ use Rattle.pdu.specs.declared.VectorLength.the-variants.{Four}
 use Rattle.wire.specs.Fields.{u16At}
 use Rattle.framing.specs.declared.Edition.the-variants.{E2018, E2009}
 use Rattle.framing.specs.Data.{nameField, startChecks, priorityChecks, syncAddressChecks, restChecks, dataChecks}
-use Rattle.framing.specs.Extended.{extendedChecks}
-use Rattle.packet.specs.Root.{rootPart, vectorChecks, cidChecks}
+use Rattle.extended.specs.Extended.{extendedChecks}
+use Rattle.root.specs.Root.{rootPart, vectorChecks, cidChecks}
 use Rattle.packet.specs.Packet.{rootVector, framingPart, framingChecks, dataRecord, extendedRecord, recordOf, packetOf, withCid, readingOf}
 use Rattle.packet.specs.Table.{allowed}
 use Rattle.packet.specs.declared.Packet.{Packet}

@@ -8,11 +8,11 @@ use Rattle.refusal.proofs.Laws.{found, all-front, reading-++, inner}
 use Rattle.pdu.specs.Head.{lengthOf}
 use Rattle.framing.specs.declared.Edition.the-variants.{E2009}
 use Rattle.framing.specs.Data.{dataChecks}
-use Rattle.packet.specs.Root.{preambleChecks, rootPart, rootChecks, rootOf}
+use Rattle.root.specs.Root.{preambleChecks, rootPart, rootChecks, rootOf}
+use Rattle.root.specs.declared.Root.{Root}
+use Rattle.root.specs.declared.Root.the-variants as layer
+use Rattle.root.proofs.Laws.{within}
 use Rattle.packet.specs.Packet.{rootVector, framingPart}
-use Rattle.packet.specs.declared.root.Root.{Root}
-use Rattle.packet.specs.declared.root.Root.the-variants as layer
-use Rattle.packet.proofs.Laws.{within}
 use Rattle.edition2009.specs.Packet.{packetChecks2009, dataRecord2009, packet2009Of, dataPacket2009Of}
 use Rattle.edition2009.specs.declared.DataRecord2009.{DataRecord2009}
 use Rattle.edition2009.specs.declared.Packet2009.{Packet2009}

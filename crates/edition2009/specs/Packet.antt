@@ -9,7 +9,7 @@ use Rattle.name.specs.Name.{zeroAt}
 use Rattle.dmp.specs.Layer.{countOf}
 use Rattle.framing.specs.declared.Edition.the-variants.{E2009}
 use Rattle.framing.specs.Data.{nameField, dmpPart, dataChecks, option}
-use Rattle.packet.specs.Root.{preambleChecks, rootChecks, rootPart}
+use Rattle.root.specs.Root.{preambleChecks, rootChecks, rootPart}
 use Rattle.packet.specs.Packet.{framingPart, place, cidOf}
 use Rattle.edition2009.specs.declared.DataFields2009.{DataFields2009}
 use Rattle.edition2009.specs.declared.DataRecord2009.{DataRecord2009}

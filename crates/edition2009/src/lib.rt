@@ -10,9 +10,9 @@ use packet::FRAMING_START;
 use packet::Place;
 use packet::SOURCE_NAME_START;
 use packet::VALUES_START;
-use packet::root::ROOT_LAYER_INDEX;
-use packet::root::Root;
 use refusal::Refusal;
+use root::ROOT_LAYER_INDEX;
+use root::Root;
 use wire::constants::E131_PREVIEW_DATA_OPTION_BIT_MASK;
 use wire::constants::E131_STREAM_TERMINATION_OPTION_BIT_MASK;
 ghost use mathlib.Core.Path.{_≡_};
@@ -83,7 +83,7 @@ fn parse_data(p: &[u8]) -> Packet2009
 fn parse_packet(datagram: &[u8]) -> Packet2009
     ensures { λ r. ⌜ r ≡ packet2009Of (now (datagram .entry)) ⌝ }
 {
-    match packet::root::parse(datagram, Edition::E2009) {
+    match root::parse(datagram, Edition::E2009) {
         Root::Refused(r) => Packet2009::Refused(r),
         Root::Layer { vector: _, end } => {
             parse_data(&datagram[FRAMING_START..ROOT_LAYER_INDEX + end])

@@ -1,5 +1,5 @@
--- The framing layers as bytes, segment by segment in document 01's layout. Lengths follow from the counts; reserved places are zero.
-use Prim.Native.Nat.{ℕ, _+_, _*_}
+-- The start of a framing layer as bytes, and a data packet's layer, segment by segment in document 01's layout. Lengths follow from the counts.
+use Prim.Native.Nat.{ℕ, _+_}
 use mathlib.Core.Bool.{Bool, true, false}
 use mathlib.Core.List.{List, [], _∷_, _++_}
 use lib.ListN.{length}
@@ -7,10 +7,7 @@ use Rattle.wire.specs.Fields.{be16, be32, join}
 use Rattle.name.specs.Name.{nameBytes}
 use Rattle.pdu.specs.Head.{flagsAndLength}
 use Rattle.dmp.specs.Layer.{dmpBytes}
-use Rattle.discovery.specs.declared.DiscoveryFields.{DiscoveryFields}
-use Rattle.discovery.specs.Layer.{discoveryBytes}
 use Rattle.framing.specs.declared.data.DataFields.{DataFields}
-use Rattle.framing.specs.declared.synchronization.SynchronizationFields.{SynchronizationFields}
 
 -- flags and length, vector
 abbrev pub framingHead : ℕ → ℕ → List ℕ
@@ -32,14 +29,3 @@ fieldBytes f =
 -- data: flags and length, vector 2; name; the fields; the DMP layer
 unfoldable pub dataFramingBytes : DataFields → List ℕ → List ℕ → List ℕ
 dataFramingBytes f name values = framingHead (87 + length values) 2 ++ (nameBytes name ++ (fieldBytes f ++ dmpBytes values))
-
--- sync: flags and length, vector 1; sequence, sync address, two reserved bytes
-abbrev pub syncFieldBytes : SynchronizationFields → List ℕ
-syncFieldBytes f = join ((f .«sequence_number» ∷ []) ∷ be16 (f .«synchronization_address») ∷ be16 0 ∷ [])
-
-unfoldable pub synchronizationFramingBytes : SynchronizationFields → List ℕ
-synchronizationFramingBytes f = framingHead 11 1 ++ syncFieldBytes f
-
--- discovery: flags and length, vector 2; name; four reserved bytes; the discovery layer
-unfoldable pub discoveryFramingBytes : DiscoveryFields → List ℕ → List ℕ → List ℕ
-discoveryFramingBytes f name us = framingHead (82 + 2 * length us) 2 ++ (nameBytes name ++ (be32 0 ++ discoveryBytes f us))

@@ -1,5 +1,2 @@
 pub mod Data
-pub mod Synchronization
-pub mod UniverseDiscovery
-pub mod Extended
 pub mod Bytes

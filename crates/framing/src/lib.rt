@@ -1,8 +1,5 @@
-// The framing layers of the three packets, and the two editions of the standard that are read.
+// The framing layer of a data packet, the start that every framing layer has, and the two editions of the standard that are read.
 pub mod data;
-pub mod extended;
-pub mod synchronization;
-pub mod universe_discovery;
 
 ghost use mathlib.Core.Path.{_≡_};
 ghost use lib.Seq.{sets};
@@ -16,7 +13,7 @@ pub enum Edition {
 }
 
 // The start of a layer: flags and length, and the vector.
-fn put_head(buf: &mut [u8], at: usize, length: usize, vector: u32)
+pub fn put_head(buf: &mut [u8], at: usize, length: usize, vector: u32)
     ensures { λ _. ⌜ now (buf .exit) ≡ sets (now (buf .entry)) at (framingHead length vector) ⌝ }
 {
     let flags = pdu::flags_and_length(length);

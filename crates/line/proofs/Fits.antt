@@ -8,7 +8,7 @@ use Rattle.refusal.specs.declared.Refusal.{Refusal}
 use Rattle.refusal.proofs.Tests.{choice}
 use Rattle.wire.specs.Fields.{partOf}
 use Rattle.framing.specs.declared.data.DataFields.{DataFields}
-use Rattle.framing.specs.declared.synchronization.SynchronizationFields.{SynchronizationFields}
+use Rattle.extended.specs.declared.synchronization.SynchronizationFields.{SynchronizationFields}
 use Rattle.discovery.specs.declared.DiscoveryFields.{DiscoveryFields}
 use Rattle.packet.specs.declared.Packet.{Packet}
 use Rattle.packet.specs.declared.Packet.the-variants.{Data, Synchronization, Discovery, Refused}

@@ -1,7 +1,7 @@
 // The lines that tell what was read: one for each entry of a capture, and a last one.
 use discovery::DiscoveryFields;
+use extended::synchronization::SynchronizationFields;
 use framing::data::DataFields;
-use framing::synchronization::SynchronizationFields;
 use packet::DataRecord;
 use packet::DiscoveryRecord;
 use packet::Packet;

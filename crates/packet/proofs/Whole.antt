@@ -20,11 +20,11 @@ use Rattle.discovery.specs.Universes.{universes, pairs, pairsFrom, ascends, lis
 use Rattle.framing.specs.declared.Edition.the-variants.{E2018}
 use Rattle.framing.specs.Data as dataLayer
 use Rattle.framing.specs.Data.{dataChecks, nameField, dmpPart, priorityChecks, syncAddressChecks, universeChecks}
-use Rattle.framing.specs.Synchronization.{synchronizationChecks}
-use Rattle.framing.specs.UniverseDiscovery as discoveryFraming
-use Rattle.framing.specs.UniverseDiscovery.{discoveryPart, discoveryFramingChecks}
-use Rattle.framing.specs.Extended.{kindChecks, extendedChecks}
-use Rattle.packet.specs.Root.{preambleChecks, rootPart, lengthChecks, vectorChecks, cidChecks, rootChecks}
+use Rattle.extended.specs.Synchronization.{synchronizationChecks}
+use Rattle.extended.specs.UniverseDiscovery as discoveryFraming
+use Rattle.extended.specs.UniverseDiscovery.{discoveryPart, discoveryFramingChecks}
+use Rattle.extended.specs.Extended.{kindChecks, extendedChecks}
+use Rattle.root.specs.Root.{preambleChecks, rootPart, lengthChecks, vectorChecks, cidChecks, rootChecks}
 use Rattle.packet.specs.Packet.{rootVector, framingPart, framingChecks, packetChecks, recordOf, packetOf, withCid, readingOf, dataRecord, extendedRecord, synchronizationRecord, discoveryRecord}
 use Rattle.packet.specs.Table.{allowed}
 use Rattle.packet.specs.declared.Packet.{Packet}

@@ -11,10 +11,10 @@ use Rattle.discovery.specs.Layer as discoveryLayer
 use Rattle.framing.specs.declared.Edition.the-variants.{E2018}
 use Rattle.framing.specs.Data as dataLayer
 use Rattle.framing.specs.Data.{nameField, dmpPart, dataChecks}
-use Rattle.framing.specs.Synchronization as syncLayer
-use Rattle.framing.specs.UniverseDiscovery.{discoveryPart}
-use Rattle.framing.specs.Extended.{extendedChecks}
-use Rattle.packet.specs.Root.{preambleChecks, rootChecks, rootPart}
+use Rattle.extended.specs.Synchronization as syncLayer
+use Rattle.extended.specs.UniverseDiscovery.{discoveryPart}
+use Rattle.extended.specs.Extended.{extendedChecks}
+use Rattle.root.specs.Root.{preambleChecks, rootChecks, rootPart}
 use Rattle.packet.specs.declared.Place.{Place}
 use Rattle.packet.specs.declared.DataRecord.{DataRecord}
 use Rattle.packet.specs.declared.SynchronizationRecord.{SynchronizationRecord}

@@ -1,13 +1,10 @@
 // A whole datagram: what it is read as, and the parts of it that a reading shows.
-pub mod pack;
-pub mod root;
-
 use discovery::DiscoveryFields;
+use extended::Extended;
+use extended::synchronization::SynchronizationFields;
 use framing::Edition;
 use framing::data::Data;
 use framing::data::DataFields;
-use framing::extended::Extended;
-use framing::synchronization::SynchronizationFields;
 use refusal::Refusal;
 use root::ROOT_LAYER_INDEX;
 use root::Root;
@@ -95,7 +92,7 @@ fn parse_data(p: &[u8]) -> Packet
 fn parse_extended(p: &[u8], whole: usize) -> Packet
     ensures { λ r. ⌜ r ≡ extendedPacketOf whole (now (p .entry)) ⌝ }
 {
-    match framing::extended::parse(p, whole) {
+    match extended::parse(p, whole) {
         Extended::Refused(r) => Packet::Refused(r),
         Extended::Synchronization(fields) => {
             Packet::Synchronization(SynchronizationRecord { fields })

@@ -1,8 +1,8 @@
 // A packet that is written: how long it is, and the whole buffer; or the refusal, and whether the buffer was kept.
 use discovery::DiscoveryFields;
+use extended::synchronization::SynchronizationFields;
 use framing::data::DataFields;
-use framing::synchronization::SynchronizationFields;
-use packet::pack::Packed;
+use pack::Packed;
 ghost use Prim.Native.Nat.{_<_};
 
 // What a buffer is filled with before the call, so that a byte left alone can be told.
@@ -95,7 +95,7 @@ fn put_packed(out: &mut [u8], at: usize, n: u64, packed: Packed, buf: &[u8]) -> 
 }
 
 pub fn put_data(out: &mut [u8], at: usize, n: u64, asked: &[u8], buf: &mut [u8]) -> usize {
-    let packed = packet::pack::pack_data(
+    let packed = pack::pack_data(
         buf,
         cid(asked),
         data_fields(asked),
@@ -116,7 +116,7 @@ pub fn put_synchronization(
         sequence_number: wire::byte_at(asked, FIELDS),
         synchronization_address: wire::u16_at(asked, FIELDS + 1),
     };
-    let packed = packet::pack::pack_synchronization(buf, cid(asked), fields);
+    let packed = pack::pack_synchronization(buf, cid(asked), fields);
     put_packed(out, at, n, packed, buf)
 }
 
@@ -137,7 +137,7 @@ pub fn put_discovery(out: &mut [u8], at: usize, n: u64, asked: &[u8], buf: &mut 
     if MOST_LISTED < count {
         return put_too_long(out, at, n);
     }
-    let packed = packet::pack::pack_discovery(
+    let packed = pack::pack_discovery(
         buf,
         cid(asked),
         fields,

@@ -7,12 +7,12 @@ use Rattle.discovery.specs.declared.DiscoveryFields.{DiscoveryFields}
 use Rattle.framing.specs.declared.data.DataFields.{DataFields}
 use Rattle.packet.specs.Packet.{packetOf, readingOf}
 use Rattle.packet.specs.Parts.{copiedOf, universesIn, afterCopy}
-use Rattle.packet.specs.Writing.{dataBytes, dataLength, dataWriteChecks, discoveryBytes, discoveryLength, discoveryWriteChecks, packedOf, afterPack}
 use Rattle.packet.specs.declared.Copied.{Copied}
 use Rattle.packet.specs.declared.Copied.the-variants as copied
 use Rattle.packet.specs.declared.Reading.{Reading}
-use Rattle.packet.specs.declared.pack.Packed.{Packed}
-use Rattle.packet.specs.declared.pack.Packed.the-variants.{Length}
+use Rattle.pack.specs.Writing.{dataBytes, dataLength, dataWriteChecks, discoveryBytes, discoveryLength, discoveryWriteChecks, packedOf, afterPack}
+use Rattle.pack.specs.declared.Packed.{Packed}
+use Rattle.pack.specs.declared.Packed.the-variants.{Length}
 use Rattle.demands.specs.Content.{contentOf, dataContent}
 use Rattle.demands.specs.Limits.{ReadableData, ReadableDiscovery}
 use Rattle.demands.proofs.Data.{return-data}

@@ -7,8 +7,8 @@ use Rattle.packet.specs.declared.Packet.the-variants as packet
 use Rattle.packet.specs.declared.Reading.{Reading}
 use Rattle.packet.specs.declared.Copied.{Copied}
 use Rattle.packet.specs.declared.Copied.the-variants as copied
-use Rattle.packet.specs.declared.pack.Packed.{Packed}
-use Rattle.packet.specs.declared.pack.Packed.the-variants.{Length, Refused}
+use Rattle.pack.specs.declared.Packed.{Packed}
+use Rattle.pack.specs.declared.Packed.the-variants.{Length, Refused}
 
 abbrev pub readAfter : Packed → List ℕ → Reading
 readAfter (Length n) buf = readingOf buf

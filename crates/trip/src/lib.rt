@@ -1,15 +1,15 @@
 // There and back in code: what the demand on returned records says of the two calls, writing and then reading.
 use discovery::DiscoveryFields;
 use framing::data::DataFields;
+use pack::Packed;
 use packet::Copied;
 use packet::Packet;
 use packet::Reading;
-use packet::pack::Packed;
 ghost use mathlib.Core.Path.{_≡_};
 ghost use mathlib.Core.List.{_++_};
 ghost use Prim.Native.Nat.{_≤_};
 ghost use lib.ListN.{length, drop};
-ghost use Rattle.packet.specs.Writing.{dataBytes, dataLength, dataWriteChecks, discoveryBytes, discoveryLength, discoveryWriteChecks, packedOf, afterPack};
+ghost use Rattle.pack.specs.Writing.{dataBytes, dataLength, dataWriteChecks, discoveryBytes, discoveryLength, discoveryWriteChecks, packedOf, afterPack};
 ghost use Rattle.demands.specs.Content.{contentOf, dataContent};
 ghost use Rattle.demands.specs.Limits.{ReadableData, ReadableDiscovery};
 ghost use Rattle.trip.specs.Trip.{readAfter, copiedAfter, outAfter};
@@ -26,7 +26,7 @@ pub fn data_trip(
     ensures bytes { λ r. ⌜ now (buf .exit) ≡ afterPack (packedOf (dataWriteChecks (length (now (buf .entry))) (now (name .entry)) (now (values .entry))) (dataLength (now (values .entry)))) (dataBytes cid fields (now (name .entry)) (now (values .entry))) (now (buf .entry)) ⌝ }
     ensures returned { λ r. ⌜ (ReadableData cid fields (now (name .entry)) (now (values .entry)) → dataLength (now (values .entry)) ≤ length (now (buf .entry)) → contentOf (now (buf .exit)) r ≡ dataContent cid fields (now (name .entry)) (now (values .entry))) ⌝ }
 {
-    match packet::pack::pack_data(buf, cid, fields, name, values) {
+    match pack::pack_data(buf, cid, fields, name, values) {
         Packed::Refused(r) => Reading {
             cid: [0; 16],
             packet: Packet::Refused(r),
@@ -49,7 +49,7 @@ pub fn discovery_trip(
     ensures numbers { λ r. ⌜ now (out .exit) ≡ outAfter r (now (buf .exit)) (now (out .entry)) ⌝ }
     ensures returned { λ r. ⌜ (ReadableDiscovery cid fields (now (name .entry)) (now (universes .entry)) → discoveryLength (now (universes .entry)) ≤ length (now (buf .entry)) → length (now (universes .entry)) ≤ length (now (out .entry)) → now (out .exit) ≡ now (universes .entry) ++ drop (length (now (universes .entry))) (now (out .entry))) ⌝ }
 {
-    match packet::pack::pack_discovery(buf, cid, fields, name, universes) {
+    match pack::pack_discovery(buf, cid, fields, name, universes) {
         Packed::Refused(r) => Copied::Refused(r),
         Packed::Length(_) => packet::copy_universes(buf, out),
     }

@@ -1,8 +1,8 @@
 // Packets as the writers put them: a line for each case with the answer, and then the whole buffer, filled with ee before the call.
 use discovery::DiscoveryFields;
+use extended::synchronization::SynchronizationFields;
 use framing::data::DataFields;
-use framing::synchronization::SynchronizationFields;
-use packet::pack::Packed;
+use pack::Packed;
 ghost use mathlib.Core.Path.{_≡_};
 ghost use lib.ListN.{length};
 
@@ -34,7 +34,7 @@ fn show(words: &[u8], packed: Packed, buf: &[u8]) {
 }
 
 fn data_into(words: &[u8], buf: &mut [u8], name: &[u8], values: &[u8], fields: DataFields) {
-    let packed = packet::pack::pack_data(buf, CID, fields, name, values);
+    let packed = pack::pack_data(buf, CID, fields, name, values);
     show(words, packed, buf);
 }
 
@@ -75,7 +75,7 @@ fn synchronization(words: &[u8], room: usize) {
             synchronization_address: 8000,
         };
         let buf = &mut space[0..room];
-        let packed = packet::pack::pack_synchronization(buf, CID, fields);
+        let packed = pack::pack_synchronization(buf, CID, fields);
         show(words, packed, buf);
     }
 }
@@ -88,7 +88,7 @@ fn discovery(words: &[u8], room: usize, name: &[u8], universes: &[u16]) {
             last_page: 1,
         };
         let buf = &mut space[0..room];
-        let packed = packet::pack::pack_discovery(buf, CID, fields, name, universes);
+        let packed = pack::pack_discovery(buf, CID, fields, name, universes);
         show(words, packed, buf);
     }
 }

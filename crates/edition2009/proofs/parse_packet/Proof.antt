@@ -4,9 +4,10 @@ use borrow.Author.Needs.{needs}
 use denote.Ref.{now}
 use Rattle.refusal.proofs.Laws.{by-answer}
 use Rattle.framing.specs.declared.Edition.the-variants.{E2009}
-use Rattle.packet.specs.Root.{rootOf}
-use Rattle.packet.specs.declared.root.Root.the-variants as layer
-use Rattle.packet.proofs.Laws.{root-within, framing-part}
+use Rattle.root.specs.Root.{rootOf}
+use Rattle.root.specs.declared.Root.the-variants as layer
+use Rattle.root.proofs.Laws.{root-within}
+use Rattle.packet.proofs.Laws.{framing-part}
 use Rattle.edition2009.specs.Packet.{dataPacket2009Of}
 use Rattle.edition2009.proofs.Laws.{afterRoot, by-root}
 use Rattle.edition2009.proofs.parse_packet.Statement.{statement}

@@ -7,9 +7,9 @@ use Rattle.refusal.proofs.Tests.{choose-map}
 use Rattle.refusal.proofs.Laws.{inner, by-answer}
 use Rattle.pdu.specs.Head.{lengthOf, vectorOf}
 use Rattle.pdu.specs.declared.VectorLength.the-variants.{Four}
-use Rattle.framing.specs.Extended.{extendedChecks, extendedOf, layerOf}
-use Rattle.framing.specs.declared.extended.Extended.{Extended}
-use Rattle.framing.specs.declared.extended.Extended.the-variants as layer
+use Rattle.extended.specs.Extended.{extendedChecks, extendedOf, layerOf}
+use Rattle.extended.specs.declared.Extended.{Extended}
+use Rattle.extended.specs.declared.Extended.the-variants as layer
 use Rattle.packet.specs.Packet.{place, extendedRecord, extendedPacketOf}
 use Rattle.packet.specs.declared.Packet.{Packet}
 use Rattle.packet.specs.declared.Packet.the-variants.{Synchronization, Discovery, Refused}

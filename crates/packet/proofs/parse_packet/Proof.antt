@@ -7,10 +7,11 @@ use lib.ListN.{length, length-drop}
 use Rattle.refusal.proofs.Tests.{chosen, passed-over}
 use Rattle.refusal.proofs.Laws.{by-answer}
 use Rattle.framing.specs.declared.Edition.the-variants.{E2018}
-use Rattle.packet.specs.Root.{rootOf, rootPart}
+use Rattle.root.specs.Root.{rootOf, rootPart}
+use Rattle.root.specs.declared.Root.the-variants as layer
+use Rattle.root.proofs.Laws.{root-within}
 use Rattle.packet.specs.Packet.{dataPacketOf, extendedPacketOf}
-use Rattle.packet.specs.declared.root.Root.the-variants as layer
-use Rattle.packet.proofs.Laws.{root-within, framing-part, afterRoot, by-root}
+use Rattle.packet.proofs.Laws.{framing-part, afterRoot, by-root}
 use Rattle.packet.proofs.parse_packet.Statement.{statement}
 use Rattle.packet.proofs.parse_packet.Tie as tie
 

@@ -1,0 +1,47 @@
+use Prim.Native.Nat.{ℕ}
+use mathlib.Core.List.{List}
+use mathlib.Core.Path.{_≡_, refl, sym, _∙_}
+use borrow.Author.Needs.{needs}
+use Rattle.refusal.specs.Check.{framing}
+use Rattle.refusal.proofs.Laws.{by-answer}
+use Rattle.pdu.specs.Head.{infoOf}
+use Rattle.pdu.specs.declared.PduInfo.the-variants as info
+use Rattle.pdu.specs.declared.VectorLength.the-variants.{Four}
+use Rattle.pdu.proofs.Head.{afterHead, head-first}
+use Rattle.extended.specs.Extended.{extendedOf, bodyOf, bodyChecks, layerOf}
+use Rattle.extended.specs.declared.Extended.the-variants.{Refused}
+use Rattle.extended.proofs.parse.Statement.{statement}
+use Rattle.extended.proofs.parse.Tie as tie
+
+by-head : (whole : ℕ) (p : List ℕ) → extendedOf whole p ≡ afterHead Refused (bodyOf whole p) (infoOf Four framing p)
+unfolding extendedOf bodyOf
+by-head whole p = head-first Refused Four framing p (bodyChecks whole p) (layerOf p)
+
+pdu-info-requires : tie.Need-pdu-info-requires
+pdu-info-requires c κs = search needs
+
+enum-known-r : tie.Need-enum-known-r
+enum-known-r c = search needs
+
+enum-known-length : tie.Need-enum-known-length
+enum-known-length c = search needs
+
+parse-body-requires : tie.Need-parse-body-requires
+parse-body-requires c κs = search needs
+
+returns : tie.Need-returns
+returns c = by-answer (afterHead Refused (bodyOf _ _)) (infoOf _ _ _) (info.Refused _) (cc) refl ∙ sym (by-head _ _)
+
+returns-2 : tie.Need-returns-2
+returns-2 c = by-answer (afterHead Refused (bodyOf _ _)) (infoOf _ _ _) (info.Info _ _) (cc) (c .parse-body .ensures) ∙ sym (by-head _ _)
+
+pub parse-spec : {M : Type 1} → statement M
+parse-spec =
+    tie.close
+    (tie.spec
+    pdu-info-requires
+    enum-known-r
+    enum-known-length
+    parse-body-requires
+    returns
+    returns-2)

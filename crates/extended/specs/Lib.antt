@@ -1,0 +1,4 @@
+pub mod Synchronization
+pub mod UniverseDiscovery
+pub mod Extended
+pub mod Bytes
