@@ -12,10 +12,9 @@ use Rattle.dmp.specs.declared.Dmp.the-variants.{Values, Refused}
 abbrev pub countOf : List ℕ → ℕ
 countOf p = u16At p 8
 
--- 1 if its length exceeds its part; 4; 2 for address type, first address, increment in turn; 1 if count + 10 differs from length;
--- 2 if count is above 513
-abbrev pub bodyChecks : List ℕ → ℕ → ℕ → List Check
-bodyChecks p len vec =
+-- 1 if its length exceeds its part; 4; 2 for address type, first address, increment in turn
+abbrev pub startChecks : List ℕ → ℕ → ℕ → List Check
+startChecks p len vec =
     check (len ≤? length p) (refusal 1 dmp 0)
     ∷ check (vec =? 2) (refusal 4 dmp vec)
     ∷ reaches 4 dmp p
@@ -24,19 +23,31 @@ bodyChecks p len vec =
     ∷ check (u16At p 4 =? 0) (refusal 2 dmp 0)
     ∷ reaches 8 dmp p
     ∷ check (u16At p 6 =? 1) (refusal 2 dmp 0)
-    ∷ reaches 10 dmp p
+    ∷ []
+
+-- 1 if count + 10 differs from length; 2 if count is above 513
+abbrev pub countChecks : List ℕ → ℕ → List Check
+countChecks p len =
+    reaches 10 dmp p
     ∷ check (countOf p + 10 =? len) (refusal 1 dmp 0)
     ∷ check (countOf p ≤? 513) (refusal 2 dmp 0)
     ∷ []
 
+abbrev pub bodyChecks : List ℕ → ℕ → ℕ → List Check
+bodyChecks p len vec = startChecks p len vec ++ countChecks p len
+
 abbrev pub dmpChecks : List ℕ → List Check
 dmpChecks p = headChecks One dmp p ++ bodyChecks p (lengthOf p) (vectorOf One p)
 
+unfoldable pub dmpOf : List ℕ → Dmp
+dmpOf p = reading Refused (dmpChecks p) (Values (countOf p))
+
+-- the answer from a place of the list on: after the layer's start, at the count
 unfoldable pub bodyOf : List ℕ → ℕ → ℕ → Dmp
 bodyOf p len vec = reading Refused (bodyChecks p len vec) (Values (countOf p))
 
-unfoldable pub dmpOf : List ℕ → Dmp
-dmpOf p = reading Refused (dmpChecks p) (Values (countOf p))
+unfoldable pub countedOf : List ℕ → ℕ → Dmp
+countedOf p len = reading Refused (countChecks p len) (Values (countOf p))
 
 -- flags and length, vector, address type, first address, increment, count; then the values
 abbrev pub dmpHead : ℕ → List ℕ

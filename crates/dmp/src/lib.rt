@@ -10,7 +10,7 @@ use wire::constants::VECTOR_DMP_SET_PROPERTY;
 ghost use mathlib.Core.Path.{_≡_};
 ghost use lib.Seq.{sets};
 ghost use Rattle.refusal.specs.Check.{refusal, dmp as dmp·place};
-ghost use Rattle.dmp.specs.Layer.{dmpOf, bodyOf, dmpBytes};
+ghost use Rattle.dmp.specs.Layer.{dmpOf, bodyOf, countedOf, dmpBytes};
 
 // Indexes of the fields, from the layer's first byte.
 const ADDRESS_DATA_FIELD_INDEX: usize = 3;
@@ -32,6 +32,23 @@ fn refuse(number: u8, value: u32) -> Dmp
     ensures { λ r. ⌜ r ≡ Dmp.Refused (refusal number dmp·place value) ⌝ }
 {
     Dmp::Refused(Refusal::new(number, refusal::DMP, value))
+}
+
+// The count, and whether the layer's length says the same.
+fn parse_count(p: &[u8], length: u16) -> Dmp
+    ensures { λ r. ⌜ r ≡ countedOf (now (p .entry)) length ⌝ }
+{
+    if p.len() < PROPERTY_VALUES_FIELD_INDEX {
+        return refuse(refusal::MISSING_FIELD, 0);
+    }
+    let count = wire::u16_at(p, PROPERTY_VALUE_COUNT_FIELD_INDEX) as usize;
+    if count + PROPERTY_VALUES_FIELD_INDEX != length as usize {
+        return refuse(refusal::INSUFFICIENT_DATA, 0);
+    }
+    if UNIVERSE_CHANNEL_CAPACITY < count {
+        return refuse(refusal::INVALID_DATA, 0);
+    }
+    Dmp::Values { count }
 }
 
 // The checks after the layer's start.
@@ -66,17 +83,7 @@ fn parse_body(p: &[u8], length: u16, vector: u32) -> Dmp
     {
         return refuse(refusal::INVALID_DATA, 0);
     }
-    if p.len() < PROPERTY_VALUES_FIELD_INDEX {
-        return refuse(refusal::MISSING_FIELD, 0);
-    }
-    let count = wire::u16_at(p, PROPERTY_VALUE_COUNT_FIELD_INDEX) as usize;
-    if count + PROPERTY_VALUES_FIELD_INDEX != length as usize {
-        return refuse(refusal::INSUFFICIENT_DATA, 0);
-    }
-    if UNIVERSE_CHANNEL_CAPACITY < count {
-        return refuse(refusal::INVALID_DATA, 0);
-    }
-    Dmp::Values { count }
+    parse_count(p, length)
 }
 
 pub fn parse(p: &[u8]) -> Dmp

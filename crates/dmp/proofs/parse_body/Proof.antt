@@ -1,9 +1,18 @@
+use Prim.Native.Nat.{ℕ}
+use mathlib.Core.List.{List}
+use mathlib.Core.Path.{_≡_, sym, _∙_}
 use native.Mathlib.Omega.{arith}
 use borrow.Author.Needs.{needs}
-use Rattle.refusal.proofs.Laws.{stop, pass}
-use Rattle.dmp.specs.Layer.{bodyOf}
+use Rattle.refusal.specs.Check.{reading}
+use Rattle.refusal.proofs.Laws.{stop, pass, reading-++}
+use Rattle.dmp.specs.Layer.{countOf, startChecks, countChecks, bodyOf, countedOf}
+use Rattle.dmp.specs.declared.Dmp.the-variants.{Values, Refused}
 use Rattle.dmp.proofs.parse_body.Statement.{statement}
 use Rattle.dmp.proofs.parse_body.Tie as tie
+
+by-count : (p : List ℕ) (len vec : ℕ) → bodyOf p len vec ≡ reading Refused (startChecks p len vec) (countedOf p len)
+unfolding bodyOf countedOf
+by-count p len vec = reading-++ Refused (startChecks p len vec) (countChecks p len) (Values (countOf p))
 
 refuse-requires : tie.Need-refuse-requires
 refuse-requires c κs = search needs
@@ -73,39 +82,11 @@ returns-8 : tie.Need-returns-8
 unfolding bodyOf
 returns-8 c = stop 7 _ _ _ (omega arith) (cc)
 
-refuse-requires-9 : tie.Need-refuse-requires-9
-refuse-requires-9 c κs = search needs
+parse-count-requires : tie.Need-parse-count-requires
+parse-count-requires c κs = search needs
 
 returns-9 : tie.Need-returns-9
-unfolding bodyOf
-returns-9 c = stop 8 _ _ _ (omega arith) (cc)
-
-u16-at-requires-3 : tie.Need-u16-at-requires-3
-u16-at-requires-3 c κs = search needs
-
-cast-count : tie.Need-cast-count
-cast-count c = search needs
-
-add-if10 : tie.Need-add-if10
-add-if10 c = search needs
-
-refuse-requires-10 : tie.Need-refuse-requires-10
-refuse-requires-10 c κs = search needs
-
-returns-10 : tie.Need-returns-10
-unfolding bodyOf
-returns-10 c = stop 9 _ _ _ (omega arith) (cc)
-
-refuse-requires-11 : tie.Need-refuse-requires-11
-refuse-requires-11 c κs = search needs
-
-returns-11 : tie.Need-returns-11
-unfolding bodyOf
-returns-11 c = stop 10 _ _ _ (omega arith) (cc)
-
-returns-12 : tie.Need-returns-12
-unfolding bodyOf
-returns-12 c = pass _ _ _ (omega arith) (cc)
+returns-9 c = pass _ _ _ (omega arith) (c .parse-count .ensures) ∙ sym (by-count _ _ _)
 
 pub parse-body-spec : {M : Type 1} → statement M
 parse-body-spec =
@@ -131,13 +112,5 @@ parse-body-spec =
     u16-at-requires-2
     refuse-requires-8
     returns-8
-    refuse-requires-9
-    returns-9
-    u16-at-requires-3
-    cast-count
-    add-if10
-    refuse-requires-10
-    returns-10
-    refuse-requires-11
-    returns-11
-    returns-12)
+    parse-count-requires
+    returns-9)
