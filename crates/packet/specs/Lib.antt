@@ -1,3 +1,4 @@
 pub mod Packet
 pub mod Table
 pub mod Parts
+pub mod Plain

@@ -1,4 +1,6 @@
 // A whole datagram: what it is read as, and the parts of it that a reading shows.
+pub mod plain;
+
 use discovery::DiscoveryFields;
 use extended::Extended;
 use extended::synchronization::SynchronizationFields;
@@ -28,6 +30,7 @@ const UNIVERSES_START: usize = 120;
 pub const VALUES_START: usize = 125;
 
 // Where something stands in a datagram.
+#[repr(C)]
 pub struct Place {
     pub start: usize,
     pub len: usize,

@@ -1,0 +1,26 @@
+-- `view::viewed_kind` shows of a datagram what `view::kind` shows of its viewer, by the walk of `Through`.
+-- Assumes nothing.
+use contract.Running.{givenOf, tables, tablesOf}
+use denote.Triple.Spec.{tripleOf}
+use denote.Triple.Table.{entered, cited}
+use Rattle.view.proofs.Shows.{the-kind, kind-typed}
+use Rattle.view.proofs.Through.{View, through-meets}
+use Rattle.view.proofs.Viewing.{OfViewer}
+use Rattle.view.proofs.view.Symbol as view
+use Rattle.view.proofs.view.Met as view-met
+use Rattle.view.proofs.kind.Symbol as callee
+use Rattle.view.proofs.kind.Met as callee-met
+use Rattle.view.proofs.viewed_kind as f
+use Rattle.view.proofs.viewed_kind.Key as key
+use Rattle.view.proofs.viewed_kind.Statement as stated
+use Rattle.view.proofs.viewed_kind.Code as code
+
+pub viewed-kind-spec : {M : Type 1} → stated.statement M
+unfolding code.routine tablesOf
+viewed-kind-spec 𝓤 H 𝓜 𝓖 𝓡 =
+    let W = givenOf 𝓤 H 𝓜 𝓖 in
+    entered 𝓤 H (tripleOf 𝓤 H (𝓖 .A) f.signature (f.spec 𝓤 H (𝓖 .A) (𝓜 .mem) (𝓡 .run)))
+    (tables 𝓤 H 𝓜 𝓡 code.env .C) (tables 𝓤 H 𝓜 𝓡 code.env .Λ) key.name code.function (code.unfolded 𝓤 H 𝓜 𝓡)
+    (through-meets the-kind (kind-typed 𝓤 H (𝓖 .A) W) 𝓤 H (𝓖 .A) W view.name callee.name (tablesOf 𝓤 H 𝓜 (tables 𝓤 H 𝓜 𝓡 code.env))
+    (cited 𝓤 H (View 𝓤 H (𝓖 .A)) 𝓜 𝓡 code.env view.name view.routine code.calls-view·view (view-met.met 𝓤 H 𝓜 𝓖 𝓡))
+    (cited 𝓤 H (OfViewer 𝓤 H (𝓖 .A) the-kind) 𝓜 𝓡 code.env callee.name callee.routine code.calls-view·kind (callee-met.met 𝓤 H 𝓜 𝓖 𝓡)))
