@@ -24,6 +24,7 @@ const E131_DISCOVERY_LAYER_UNIVERSE_LIST_FIELD_INDEX: usize = 8;
 
 const E131_UNIVERSE_FIELD_LENGTH: usize = 2;
 
+#[repr(C)]
 pub struct DiscoveryFields {
     pub page: u8,
     pub last_page: u8,

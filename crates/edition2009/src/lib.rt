@@ -20,6 +20,7 @@ ghost use Rattle.packet.specs.Parts.{shownAt};
 ghost use Rattle.edition2009.specs.Packet.{fields2009Of, dataPacket2009Of, packet2009Of, reading2009Of};
 ghost use Rattle.edition2009.specs.Parts.{namePlace, valuesPlace};
 
+#[repr(C)]
 pub struct DataFields2009 {
     pub priority: u8,
     pub sequence_number: u8,

@@ -15,6 +15,7 @@ const E131_SYNC_FRAMING_LAYER_SEQ_NUM_FIELD_INDEX: usize = 6;
 
 const E131_SYNC_FRAMING_LAYER_SYNC_ADDRESS_FIELD_INDEX: usize = 7;
 
+#[repr(C)]
 pub struct SynchronizationFields {
     pub sequence_number: u8,
     pub synchronization_address: u16,

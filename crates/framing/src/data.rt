@@ -39,6 +39,7 @@ const DATA_INDEX: usize = 77;
 // The layer's length with no values.
 const EMPTY_LENGTH: usize = 87;
 
+#[repr(C)]
 pub struct DataFields {
     pub priority: u8,
     pub synchronization_address: u16,

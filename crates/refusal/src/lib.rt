@@ -62,6 +62,7 @@ pub const DISCOVERY: u8 = 5;
 
 pub const UNIVERSE_LIST: u8 = 6;
 
+#[repr(C)]
 pub struct Refusal {
     pub number: u8,
     pub place: u8,

@@ -12,6 +12,7 @@ ghost use Rattle.refusal.specs.Check.{checkedOf};
 ghost use Rattle.universe.specs.Universe.{universeChecks, multicastOf};
 
 // Four bytes of an IPv4 address, highest first, and a port.
+#[repr(C)]
 pub struct Ipv4Address {
     pub highest: u8,
     pub second: u8,
