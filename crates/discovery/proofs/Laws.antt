@@ -1,10 +1,11 @@
 -- Laws of universe lists: their numbers one by one, their neighbours' checks one by one, their bytes. Assumes nothing.
-use Prim.Native.Nat.{ℕ, zero, suc, _+_, _*_, _≤_, _<_}
-use mathlib.Core.Path.{_≡_, refl, ap, _∙_}
+use Prim.Native.Nat.{ℕ, zero, suc, _+_, _*_, _/_, _%_, _≤_, _<_}
+use mathlib.Core.Path.{_≡_, refl, sym, ap, _∙_}
 use mathlib.Core.List.{List, [], _∷_, _++_}
+use native.Mathlib.Nat.{zero-add}
 use native.Mathlib.Omega.{arith}
 use native.Mathlib.Numerals.{add-one}
-use lib.ListN.{length, take, drop, getD, drop-of-length-le}
+use lib.ListN.{length, take, drop, getD, set, drop-of-length-le}
 use lib.Seq.{sets, take-suc, length-take-le}
 use Rattle.wire.specs.Fields.{u16At, be16}
 use Rattle.wire.proofs.Laws.{u16-drop, drop-more, sets-append}
@@ -81,3 +82,8 @@ bytes-more us l at i h =
     let n : length (universeBytes (take i us)) ≡ 2 * i = bytes-length (take i us) ∙ rw length-take-le in
     rw (add-one, take-suc us i 0, bytes-++ (take i us) (getD us i 0 ∷ []))
     (sets-append (universeBytes (take i us)) (be16 (getD us i 0)) l at ∙ rw n)
+
+pub bytes-next : (us l : List ℕ) (i : ℕ) → i < length us →
+    let u = getD us i 0 in
+    set (set (sets l 0 (universeBytes (take i us))) (2 * i) (u / 0x100 % 0x100)) (2 * i + 1) (u % 0x100) ≡ sets l 0 (universeBytes (take (i + 1) us))
+bytes-next us l i h = sym (bytes-more us l 0 i h ∙ rw (zero-add (2 * i), add-one (2 * i)))

@@ -6,8 +6,9 @@ use refusal::Refusal;
 use wire::constants::E131_UNIVERSE_DISCOVERY_LAYER_MAX_LENGTH;
 use wire::constants::E131_UNIVERSE_DISCOVERY_LAYER_MIN_LENGTH;
 use wire::constants::VECTOR_UNIVERSE_DISCOVERY_UNIVERSE_LIST;
+ghost use mathlib.Core.Bool.{true};
 ghost use mathlib.Core.Path.{_≡_};
-ghost use Prim.Native.Nat.{_+_, _*_, _≤_};
+ghost use Prim.Native.Nat.{_+_, _*_, _≤_, _<_};
 ghost use lib.ListN.{length};
 ghost use lib.Seq.{sets};
 ghost use Rattle.wire.specs.Fields.{u16At};
@@ -142,11 +143,39 @@ fn refuse_order(number: u8) -> Checked
     Checked::Refused(Refusal::new(number, refusal::NOWHERE, 0))
 }
 
+fn still_rising(rising: bool, last: u16, u: u16) -> bool
+    ensures { λ r. ⌜ (r ≡ true → (rising ≡ true) × (last < u)) ⌝ }
+{
+    if u <= last {
+        return false;
+    }
+    rising
+}
+
+// It looks at all neighbours, so that it compiles to wide comparisons.
+fn all_rise(universes: &[u16]) -> bool
+    ensures { λ r. ⌜ (r ≡ true → checkedOf (orderChecks (now (universes .entry))) ≡ Checked.Passed) ⌝ }
+{
+    if universes.len() == 0 {
+        return true;
+    }
+    let mut rising = true;
+    let mut i = 1;
+    while i < universes.len() {
+        rising = still_rising(rising, universes[i - 1], universes[i]);
+        i += 1;
+    }
+    rising
+}
+
 // Whether universes may be written: the first two neighbours that do not rise refuse.
 pub fn check_order(universes: &[u16]) -> Checked
     ensures { λ r. ⌜ r ≡ checkedOf (orderChecks (now (universes .entry))) ⌝ }
 {
     if universes.len() == 0 {
+        return Checked::Passed;
+    }
+    if all_rise(universes) {
         return Checked::Passed;
     }
     let mut last = universes[0];
@@ -165,7 +194,23 @@ pub fn check_order(universes: &[u16]) -> Checked
     Checked::Passed
 }
 
-fn put_universes(buf: &mut [u8], at: usize, universes: &[u16])
+// With plain indices under one bound this compiles to wide moves.
+fn put_run(buf: &mut [u8], universes: &[u16])
+    requires { ⌜ 2 * length (now universes) ≤ length (now buf) ⌝ }
+    ensures { λ _. ⌜ now (buf .exit) ≡ sets (now (buf .entry)) 0 (universeBytes (now (universes .entry))) ⌝ }
+{
+    let mut i = 0;
+    while i < universes.len() {
+        let u = universes[i];
+        let at = E131_UNIVERSE_FIELD_LENGTH * i;
+        buf[at] = (u / 0x100 % 0x100) as u8;
+        buf[at + 1] = (u % 0x100) as u8;
+        i += 1;
+    }
+}
+
+// Any buffer: what does not fit is not written.
+fn put_each(buf: &mut [u8], at: usize, universes: &[u16])
     ensures { λ _. ⌜ now (buf .exit) ≡ sets (now (buf .entry)) at (universeBytes (now (universes .entry))) ⌝ }
 {
     if buf.len() < at {
@@ -176,6 +221,19 @@ fn put_universes(buf: &mut [u8], at: usize, universes: &[u16])
         wire::put_u16(buf, at + E131_UNIVERSE_FIELD_LENGTH * i, universes[i]);
         i += 1;
     }
+}
+
+fn put_universes(buf: &mut [u8], at: usize, universes: &[u16])
+    ensures { λ _. ⌜ now (buf .exit) ≡ sets (now (buf .entry)) at (universeBytes (now (universes .entry))) ⌝ }
+{
+    if buf.len() < at {
+        return;
+    }
+    if buf.len() - at < E131_UNIVERSE_FIELD_LENGTH * universes.len() {
+        put_each(buf, at, universes);
+        return;
+    }
+    put_run(&mut buf[at..], universes);
 }
 
 // Writes the layer at `at`. It cannot refuse: whoever packs a packet has checked the universes.

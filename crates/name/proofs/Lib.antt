@@ -1,5 +1,6 @@
 pub mod Choices
 pub mod Laws
+pub mod Runs
 pub mod Longest
 pub mod Points
 pub mod Examples

@@ -1,3 +1,4 @@
 pub mod Utf8
 pub mod CodePoint
 pub mod Name
+pub mod Plain

@@ -1,4 +1,5 @@
 // Source names: where one ends in its field, and whether its bytes are well-formed UTF-8.
+mod plain;
 mod utf8;
 
 use refusal::Checked;
@@ -19,7 +20,7 @@ pub enum SourceName {
 fn zero_at(s: &[u8]) -> usize
     ensures { λ r. ⌜ r ≡ zeroAt (now (s .entry)) ⌝ }
 {
-    let mut i = 0;
+    let mut i = plain::plain_run(s);
     while i < s.len() {
         if s[i] == 0 {
             return i;

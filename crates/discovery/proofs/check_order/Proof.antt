@@ -21,12 +21,18 @@ returns : tie.Need-returns Inv-loop μ-loop
 returns c = let us = now (c .before .before .args .universes) in
     sym (rw (pairs-none rises us (c .if1 .taken)) none-checked)
 
+all-rise-requires : tie.Need-all-rise-requires Inv-loop μ-loop
+all-rise-requires c κs = search needs
+
+returns-2 : tie.Need-returns-2 Inv-loop μ-loop
+returns-2 c = sym (c .before .all-rise .ensures (c .if2 .taken))
+
 shared-slice-read-last : tie.Need-shared-slice-read-last Inv-loop μ-loop
 shared-slice-read-last c = omega arith
 
 loop-holds : tie.Need-loop-holds Inv-loop μ-loop
-loop-holds c = let us = now (c .before .before .before .args .universes) in
-    (omega arith, sym (rw (pairs-first rises us (c .before .if1 .left))))
+loop-holds c = let us = now (c .before .before .before .before .before .args .universes) in
+    (omega arith, sym (rw (pairs-first rises us (c .before .before .before .if1 .left))))
 
 mul-u : tie.Need-mul-u Inv-loop μ-loop
 mul-u c = omega arith
@@ -37,9 +43,9 @@ shared-slice-read-u c = omega arith
 refuse-order-requires : tie.Need-refuse-order-requires Inv-loop μ-loop
 refuse-order-requires c κs = search needs
 
-returns-2 : tie.Need-returns-2 Inv-loop μ-loop
-returns-2 c = let l = c .before .before .before .before in
-    let us = now (l .before .before .before .before .args .universes) in
+returns-3 : tie.Need-returns-3 Inv-loop μ-loop
+returns-3 c = let l = c .before .before .before .before in
+    let us = now (l .before .before .before .before .before .before .args .universes) in
     let k : l .loop .i < length us = omega arith in
     let f : l .loop .last ≡ getD us (l .loop .i) 0 = omega arith in
     cc (pair-fails rises us (l .loop .last) (l .loop .i) 0 k f)
@@ -47,9 +53,9 @@ returns-2 c = let l = c .before .before .before .before in
 refuse-order-requires-2 : tie.Need-refuse-order-requires-2 Inv-loop μ-loop
 refuse-order-requires-2 c κs = search needs
 
-returns-3 : tie.Need-returns-3 Inv-loop μ-loop
-returns-3 c = let l = c .before .before .before .before .before in
-    let us = now (l .before .before .before .before .args .universes) in
+returns-4 : tie.Need-returns-4 Inv-loop μ-loop
+returns-4 c = let l = c .before .before .before .before .before in
+    let us = now (l .before .before .before .before .before .before .args .universes) in
     let k : l .loop .i < length us = omega arith in
     cc (pair-fails rises us (l .loop .last) (l .loop .i) 1 k (omega arith))
 
@@ -61,13 +67,13 @@ loop-less c = omega arith
 
 loop-again : tie.Need-loop-again Inv-loop μ-loop
 loop-again c = let l = c .before .before .before .before in
-    let us = now (l .before .before .before .before .args .universes) in
+    let us = now (l .before .before .before .before .before .before .args .universes) in
     let k : l .loop .i < length us = omega arith in
     (omega arith, sym (pair-holds rises us (l .loop .last) (l .loop .i) k (omega arith)) ∙ l .loop .inv .1)
 
-returns-4 : tie.Need-returns-4 Inv-loop μ-loop
-returns-4 c = let l = c .before in
-    let us = now (l .before .before .before .before .args .universes) in
+returns-5 : tie.Need-returns-5 Inv-loop μ-loop
+returns-5 c = let l = c .before in
+    let us = now (l .before .before .before .before .before .before .args .universes) in
     let k : length us ≤ l .loop .i = omega arith in
     sym (pairs-end rises us (l .loop .last) (l .loop .i) k) ∙ l .loop .inv .1
 
@@ -78,15 +84,17 @@ check-order-spec =
     Inv-loop
     μ-loop
     returns
+    all-rise-requires
+    returns-2
     shared-slice-read-last
     loop-holds
     mul-u
     shared-slice-read-u
     refuse-order-requires
-    returns-2
-    refuse-order-requires-2
     returns-3
+    refuse-order-requires-2
+    returns-4
     add-i
     loop-less
     loop-again
-    returns-4)
+    returns-5)

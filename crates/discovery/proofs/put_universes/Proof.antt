@@ -1,79 +1,63 @@
-use Prim.Native.Nat.{_≤_, _-_}
-use mathlib.Core.Path.{_≡_, refl, sym}
+use mathlib.Core.Path.{sym}
 use native.Mathlib.Omega.{arith}
 use borrow.Author.Needs.{needs}
 use denote.Ref.{now}
-use lib.ListN.{length, take}
-use lib.Seq.{sets, take-all}
-use Rattle.wire.proofs.Laws.{sets-past}
+use Rattle.wire.proofs.Laws.{sets-past, lent-rest}
 use Rattle.discovery.specs.Universes.{universeBytes}
-use Rattle.discovery.proofs.Laws.{bytes-more}
 use Rattle.discovery.proofs.put_universes.Statement.{statement}
 use Rattle.discovery.proofs.put_universes.Tie as tie
 
-abbrev Inv-loop : tie.InvT-loop
-Inv-loop buf₀ at universes i₀ buf i = (i ≤ length universes) × (length buf ≡ length buf₀) × (buf ≡ sets buf₀ at (universeBytes (take i universes)))
-
-abbrev μ-loop : tie.MeasureT-loop
-μ-loop buf₀ at universes i₀ buf i = length universes - i
-
-returns : tie.Need-returns Inv-loop μ-loop
+returns : tie.Need-returns
 returns c = let a = c .before .before .before .args in
     sym (sets-past (universeBytes (now (a .universes))) (now (a .buf)) (a .at) (omega arith))
 
-loop-holds : tie.Need-loop-holds Inv-loop μ-loop
-unfolding universeBytes
-loop-holds c = (omega arith, refl, refl)
+sub-if2 : tie.Need-sub-if2
+sub-if2 c = search needs
 
-mul-put-u16 : tie.Need-mul-put-u16 Inv-loop μ-loop
-mul-put-u16 c = omega arith
+mul-if2 : tie.Need-mul-if2
+mul-if2 c = search needs
 
-add-put-u16 : tie.Need-add-put-u16 Inv-loop μ-loop
-add-put-u16 c = omega arith
+put-each-requires : tie.Need-put-each-requires
+put-each-requires c κs = search needs
 
-mul-put-u16-2 : tie.Need-mul-put-u16-2 Inv-loop μ-loop
-mul-put-u16-2 c = omega arith
+same-length : tie.Need-same-length
+same-length c = search needs
 
-shared-slice-read-put-u16 : tie.Need-shared-slice-read-put-u16 Inv-loop μ-loop
-shared-slice-read-put-u16 c = omega arith
+returns-2 : tie.Need-returns-2
+returns-2 c = search needs
 
-put-u16-requires : tie.Need-put-u16-requires Inv-loop μ-loop
-put-u16-requires c κs = search needs
+sub-put-run : tie.Need-sub-put-run
+sub-put-run c = search needs
 
-add-i : tie.Need-add-i Inv-loop μ-loop
-add-i c = omega arith
+part-put-run-start : tie.Need-part-put-run-start
+part-put-run-start c = search needs
 
-loop-less : tie.Need-loop-less Inv-loop μ-loop
-loop-less c = omega arith
+part-put-run-end : tie.Need-part-put-run-end
+part-put-run-end c = search needs
 
-loop-again : tie.Need-loop-again Inv-loop μ-loop
-loop-again c = let l = c .before .before .before .before .before .before in
-    let a = l .before .before .before .before .args in
-    (omega arith, omega arith, cc (bytes-more (now (a .universes)) (now (a .buf)) (a .at) (l .loop .i) (omega arith)))
+put-run-requires : tie.Need-put-run-requires
+put-run-requires c κs = search needs
 
-same-length : tie.Need-same-length Inv-loop μ-loop
-same-length c = omega arith
+same-length-2 : tie.Need-same-length-2
+same-length-2 c = search needs
 
-returns-2 : tie.Need-returns-2 Inv-loop μ-loop
-returns-2 c = let a = c .before .before .before .before .before .args in
-    let k : length (now (a .universes)) ≤ c .before .loop .i = omega arith in
-    cc (take-all (c .before .loop .i) (now (a .universes)) k)
+returns-3 : tie.Need-returns-3
+returns-3 c = let a = c .before .before .before .before .before .before .before .before .args in
+    lent-rest (universeBytes (now (a .universes))) (now (a .buf)) (a .at) (c .before .before .put-run .ensures)
 
 pub put-universes-spec : {M : Type 1} → statement M
 put-universes-spec =
     tie.close
     (tie.spec
-    Inv-loop
-    μ-loop
     returns
-    loop-holds
-    mul-put-u16
-    add-put-u16
-    mul-put-u16-2
-    shared-slice-read-put-u16
-    put-u16-requires
-    add-i
-    loop-less
-    loop-again
+    sub-if2
+    mul-if2
+    put-each-requires
     same-length
-    returns-2)
+    returns-2
+    sub-put-run
+    part-put-run-start
+    part-put-run-end
+    put-run-requires
+    same-length-2
+    returns-3)
