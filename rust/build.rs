@@ -25,6 +25,8 @@ fn main() {
     }
     println!("cargo:rustc-link-search=native={}", folder.display());
     println!("cargo:rustc-link-lib=static=exports");
+    // The test in C links it by itself.
+    println!("cargo:rustc-env=LEDGERWREN_ARCHIVE={}", archive.display());
 }
 
 fn folder() -> PathBuf {
