@@ -60,6 +60,7 @@ pub struct DataPacket2009<'a> {
 /// # Errors
 ///
 /// The first check that fails, as for [`parse`](crate::parse).
+#[inline]
 pub fn parse_2009(datagram: &[u8]) -> Result<DataPacket2009<'_>, Refusal> {
     let reading = ffi::parse_2009(datagram);
     if reading.found.kind != ffi::DATA {

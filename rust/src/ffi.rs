@@ -161,6 +161,7 @@ extern "C" {
 }
 
 impl Outcome {
+    #[inline]
     fn result(self) -> Result<usize, Refusal> {
         self.refusal.unless_none().map(|()| self.count)
     }
@@ -174,15 +175,18 @@ pub(crate) struct Reading<'a> {
 }
 
 impl<'a> Reading<'a> {
+    #[inline]
     pub(crate) fn name(&self) -> &'a str {
         // SAFETY: the places are those that the reader found in this datagram.
         unsafe { name_at(self.datagram, self.found.name) }
     }
 
+    #[inline]
     pub(crate) fn values(&self) -> &'a [u8] {
         part(self.datagram, self.found.values)
     }
 
+    #[inline]
     pub(crate) fn universes(&self) -> &'a [u8] {
         part(self.datagram, self.found.universes)
     }
@@ -195,16 +199,19 @@ pub(crate) struct Reading2009<'a> {
 }
 
 impl<'a> Reading2009<'a> {
+    #[inline]
     pub(crate) fn name(&self) -> &'a str {
         // SAFETY: the places are those that the reader found in this datagram.
         unsafe { name_at(self.datagram, self.found.name) }
     }
 
+    #[inline]
     pub(crate) fn values(&self) -> &'a [u8] {
         part(self.datagram, self.found.values)
     }
 }
 
+#[inline]
 fn part(datagram: &[u8], place: Place) -> &[u8] {
     &datagram[place.start..][..place.len]
 }
@@ -214,24 +221,28 @@ fn part(datagram: &[u8], place: Place) -> &[u8] {
 /// # Safety
 ///
 /// The place is one that a reader answered as the name's for this datagram.
+#[inline]
 unsafe fn name_at(datagram: &[u8], place: Place) -> &str {
     // SAFETY: a reader takes a name only where it is well-formed UTF-8, and the place of no name is
     // empty.
     unsafe { std::str::from_utf8_unchecked(part(datagram, place)) }
 }
 
+#[inline]
 pub(crate) fn parse(datagram: &[u8]) -> Reading<'_> {
     // SAFETY: pointer and length are one live slice's, which the call only reads.
     let found = unsafe { ledgerwren_parse(datagram.as_ptr(), datagram.len()) };
     Reading { datagram, found }
 }
 
+#[inline]
 pub(crate) fn parse_2009(datagram: &[u8]) -> Reading2009<'_> {
     // SAFETY: pointer and length are one live slice's, which the call only reads.
     let found = unsafe { ledgerwren_parse_2009(datagram.as_ptr(), datagram.len()) };
     Reading2009 { datagram, found }
 }
 
+#[inline]
 pub(crate) fn copy_universes(datagram: &[u8], out: &mut [u16]) -> Result<usize, Refusal> {
     // SAFETY: pointers and lengths are those of two live slices. They do not overlap, since `out` is
     // borrowed alone; only `out` is written.
@@ -246,6 +257,7 @@ pub(crate) fn copy_universes(datagram: &[u8], out: &mut [u16]) -> Result<usize, 
     outcome.result()
 }
 
+#[inline]
 pub(crate) fn pack_data(
     buf: &mut [u8],
     header: DataHeader,
@@ -268,6 +280,7 @@ pub(crate) fn pack_data(
     outcome.result()
 }
 
+#[inline]
 pub(crate) fn pack_synchronization(
     buf: &mut [u8],
     header: SynchronizationHeader,
@@ -277,6 +290,7 @@ pub(crate) fn pack_synchronization(
     outcome.result()
 }
 
+#[inline]
 pub(crate) fn pack_discovery(
     buf: &mut [u8],
     header: DiscoveryHeader,
@@ -299,11 +313,13 @@ pub(crate) fn pack_discovery(
     outcome.result()
 }
 
+#[inline]
 pub(crate) fn is_universe_in_range(universe: u16) -> Result<(), Refusal> {
     // SAFETY: a number goes in and numbers come out.
     unsafe { ledgerwren_is_universe_in_range(universe) }.unless_none()
 }
 
+#[inline]
 pub(crate) fn universe_to_ipv4_multicast_addr(universe: u16) -> Result<Ipv4Address, Refusal> {
     // SAFETY: a number goes in and numbers come out.
     let answer = unsafe { ledgerwren_universe_to_ipv4_multicast_addr(universe) };

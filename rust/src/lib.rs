@@ -40,6 +40,8 @@
 //! The static library is made by `rt staticlib exports` at the root of the repository. It is x86-64
 //! code for Linux. `LEDGERWREN_LIB_DIR` names its folder where that is not `target/staticlib`.
 
+// The calls are thin, so they and what they use are marked `#[inline]`: a record is then built where
+// it is wanted, and not copied there.
 #![deny(unsafe_code)]
 #![deny(missing_docs)]
 

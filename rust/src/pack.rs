@@ -47,6 +47,7 @@ pub struct UniverseDiscovery<'a> {
 /// In this order: the buffer is shorter than the packet; the name has more than 63 bytes, or a zero;
 /// there are more than 513 values. `buf` is then left as found. Priority and addresses are not
 /// checked, as in the crate sacn.
+#[inline]
 pub fn pack_data(buf: &mut [u8], cid: Cid, packet: &DataPacket<'_>) -> Result<usize, Refusal> {
     let fields = ffi::DataFields {
         priority: packet.priority,
@@ -82,6 +83,7 @@ pub fn pack_data(buf: &mut [u8], cid: Cid, packet: &DataPacket<'_>) -> Result<us
 ///
 /// The buffer is shorter than the packet. `buf` is then left as found. The address is not checked,
 /// as in the crate sacn.
+#[inline]
 pub fn pack_synchronization(
     buf: &mut [u8],
     cid: Cid,
@@ -119,6 +121,7 @@ pub fn pack_synchronization(
 /// In this order: the buffer is shorter than the packet; the name has more than 63 bytes, or a zero;
 /// there are more than 512 universes; the first two neighbours that do not ascend are equal, or fall.
 /// `buf` is then left as found. The order of the pages is not checked, as in the crate sacn.
+#[inline]
 pub fn pack_discovery(
     buf: &mut [u8],
     cid: Cid,

@@ -115,6 +115,7 @@ pub struct UniverseDiscoveryPacket<'a> {
 /// );
 /// # Ok::<(), ledgerwren::Refusal>(())
 /// ```
+#[inline]
 pub fn parse(datagram: &[u8]) -> Result<Packet<'_>, Refusal> {
     let reading = ffi::parse(datagram);
     let data = match reading.found.kind {
@@ -129,6 +130,7 @@ pub fn parse(datagram: &[u8]) -> Result<Packet<'_>, Refusal> {
     })
 }
 
+#[inline]
 fn data<'a>(reading: &ffi::Reading<'a>) -> DataPacket<'a> {
     let fields = &reading.found.data_fields;
     DataPacket {
@@ -144,6 +146,7 @@ fn data<'a>(reading: &ffi::Reading<'a>) -> DataPacket<'a> {
     }
 }
 
+#[inline]
 fn synchronization(reading: &ffi::Reading<'_>) -> SynchronizationPacket {
     let fields = &reading.found.synchronization_fields;
     SynchronizationPacket {
@@ -152,6 +155,7 @@ fn synchronization(reading: &ffi::Reading<'_>) -> SynchronizationPacket {
     }
 }
 
+#[inline]
 fn discovery<'a>(reading: &ffi::Reading<'a>) -> UniverseDiscoveryPacket<'a> {
     let fields = &reading.found.discovery_fields;
     UniverseDiscoveryPacket {

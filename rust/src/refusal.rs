@@ -50,6 +50,7 @@ impl Refusal {
     }
 
     /// Turns the library's answer into a result: there the number 0 says that nothing is refused.
+    #[inline]
     pub(crate) fn unless_none(self) -> Result<(), Refusal> {
         match self.number {
             0 => Ok(()),

@@ -19,6 +19,7 @@ use std::net::{Ipv4Addr, SocketAddrV4};
 /// # Errors
 ///
 /// [`NoMulticastAddress`](crate::Check::NoMulticastAddress) for every other number.
+#[inline]
 pub fn is_universe_in_range(universe: u16) -> Result<(), Refusal> {
     ffi::is_universe_in_range(universe)
 }
@@ -36,6 +37,7 @@ pub fn is_universe_in_range(universe: u16) -> Result<(), Refusal> {
 /// # Errors
 ///
 /// As for [`is_universe_in_range`].
+#[inline]
 pub fn universe_to_ipv4_multicast_addr(universe: u16) -> Result<SocketAddrV4, Refusal> {
     let address = ffi::universe_to_ipv4_multicast_addr(universe)?;
     let ip = Ipv4Addr::new(

@@ -36,6 +36,7 @@ pub struct Universes<'a>(&'a [u8]);
 
 impl<'a> Universes<'a> {
     /// An odd last byte is not part of the list.
+    #[inline]
     pub(crate) fn new(bytes: &'a [u8]) -> Universes<'a> {
         Universes(&bytes[..bytes.len() / UNIVERSE_LENGTH * UNIVERSE_LENGTH])
     }
@@ -144,6 +145,7 @@ impl FusedIterator for UniversesIter<'_> {}
 ///
 /// [`NoUniversesCopied`](crate::Check::NoUniversesCopied) where the datagram is no readable discovery
 /// packet or `out` is too short; `out` is left as found.
+#[inline]
 pub fn copy_universes(datagram: &[u8], out: &mut [u16]) -> Result<usize, Refusal> {
     ffi::copy_universes(datagram, out)
 }

@@ -3,8 +3,9 @@
 use std::hint::black_box;
 use std::time::{Duration, Instant};
 
-/// How long one measurement lasts at least.
-const BATCH: Duration = Duration::from_millis(4);
+/// How long one measurement lasts at least: well below the time after which another program gets its
+/// turn, so that the best of many is undisturbed.
+const BATCH: Duration = Duration::from_millis(1);
 
 /// Runs something a number of times and says how long that took.
 pub type Timer<'a> = Box<dyn FnMut(u64) -> Duration + 'a>;

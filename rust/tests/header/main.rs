@@ -8,6 +8,7 @@ mod rust;
 mod syntax;
 
 use interface::Interface;
+use syntax::Constants;
 
 fn assert_same(declared: &Interface, exported: &Interface) {
     let differences = declared.differences(exported);
@@ -49,9 +50,8 @@ fn camel(name: &str) -> String {
 #[test]
 fn the_enums_have_the_numbers_of_the_refusals() {
     let (numbers, places) = rattle::numbers_and_places(&rattle::sources());
-    let in_rust = |list: Vec<(String, u32)>| -> Vec<_> {
-        list.iter().map(|(name, n)| (camel(name), *n)).collect()
-    };
+    let in_rust =
+        |list: Constants| -> Vec<_> { list.iter().map(|(name, n)| (camel(name), *n)).collect() };
     let mut checks = vec![("Unknown".to_string(), 0)];
     checks.extend(in_rust(numbers));
     assert_eq!(rust::variants("Check"), checks);

@@ -1,7 +1,8 @@
 //! What the Rattle sources export.
 
 use crate::interface::{Interface, Item, TYPE_PREFIX};
-use crate::syntax::{between, c_type, constants, in_c, repr_c_structs, without_comments};
+use crate::syntax::{between, c_type, constants, in_c, repr_c_structs, typed_names};
+use crate::syntax::{without_comments, Constants};
 use std::collections::BTreeMap;
 use std::fs;
 use std::path::Path;
@@ -33,14 +34,14 @@ pub fn sources() -> Sources {
 }
 
 /// The refusals' numbers and the places, by their names in the crate `refusal`.
-pub fn numbers_and_places(sources: &Sources) -> (Vec<(String, u32)>, Vec<(String, u32)>) {
+pub fn numbers_and_places(sources: &Sources) -> (Constants, Constants) {
     let mut numbers = constants(&sources["refusal/lib.rt"]);
     let first = numbers.iter().position(|(name, _)| name == FIRST_PLACE);
     let places = numbers.split_off(first.expect("the first place"));
     (numbers, places)
 }
 
-pub fn kinds(sources: &Sources) -> Vec<(String, u32)> {
+pub fn kinds(sources: &Sources) -> Constants {
     constants(&sources["exports/lib.rt"])
 }
 
@@ -70,7 +71,7 @@ fn add_functions(interface: &mut Interface, text: &str) {
         let (parameters, rest) = rest.split_once(')').expect("the parameters' end");
         let (_, rest) = rest.split_once("->").expect("a result");
         let result = rest.split_whitespace().next().expect("a result's type");
-        let parameters = crate::syntax::typed_names(parameters);
+        let parameters = typed_names(parameters);
         let parameters = parameters.into_iter().flat_map(in_registers).collect();
         interface.add_function(name, parameters, c_type(result));
     }

@@ -1,9 +1,8 @@
 //! What the Rust crate declares.
 
 use crate::interface::{Interface, TYPE_PREFIX};
-use crate::syntax::{
-    between, c_type, constants, in_c, repr_c_structs, typed_names, without_comments,
-};
+use crate::syntax::{between, c_type, constants, in_c, repr_c_structs, typed_names};
+use crate::syntax::{without_comments, Constants};
 
 const BOUNDARY: &str = include_str!("../../src/ffi.rs");
 const REFUSAL: &str = include_str!("../../src/refusal.rs");
@@ -32,12 +31,12 @@ pub fn declared(boundary: &str) -> Interface {
     interface
 }
 
-pub fn kinds() -> Vec<(String, u32)> {
+pub fn kinds() -> Constants {
     constants(BOUNDARY)
 }
 
 /// The variants of an enum of refusal.rs and their numbers.
-pub fn variants(name: &str) -> Vec<(String, u32)> {
+pub fn variants(name: &str) -> Constants {
     let text = without_comments(REFUSAL);
     let (body, _) = between(&text, &format!("pub enum {name} {{"), "}").expect("the enum");
     let lines = body.split(',').filter_map(|line| line.split_once(" = "));

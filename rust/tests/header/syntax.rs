@@ -39,8 +39,11 @@ pub fn typed_names(text: &str) -> Vec<Item> {
         .collect()
 }
 
-/// The constants of type `u8`: their names and values, in order.
-pub fn constants(text: &str) -> Vec<(String, u32)> {
+/// Names and their values, in order.
+pub type Constants = Vec<(String, u32)>;
+
+/// The constants of type `u8`.
+pub fn constants(text: &str) -> Constants {
     let text = without_comments(text);
     let declared = text.split("const ").skip(1);
     declared
