@@ -49,14 +49,14 @@ impl Growth {
 
 pub fn over_universes(rounds: u64) -> Growth {
     let sizes: Vec<usize> = (0..=512).step_by(64).collect();
-    let title = "Reading a discovery packet, by its universes";
+    let title = "Reading a discovery packet, by universes";
     Growth::of(title, "universes", &sizes, discovery, rounds)
 }
 
 pub fn over_names(rounds: u64) -> Growth {
     let mut sizes: Vec<usize> = (0..63).step_by(8).collect();
     sizes.push(63);
-    let title = "Reading a data packet with one value, by the bytes of its name";
+    let title = "Reading data with one value, by length of name";
     let named = |bytes| data(&"n".repeat(bytes), 1);
     Growth::of(title, "bytes of name", &sizes, named, rounds)
 }

@@ -14,6 +14,9 @@ const BOTTOM: f64 = 50.0;
 /// Ticks on an axis, at least.
 const TICKS: f64 = 4.0;
 
+/// How far the axis of times goes past the longest, which leaves room for the names of the lines.
+const HEADROOM: f64 = 1.2;
+
 /// The two lines, by name and colour.
 const SERIES: [(&str, &str); 2] = [("Ledgerwren", "#0b6e4f"), ("crate sacn", "#c0392b")];
 
@@ -35,7 +38,7 @@ pub fn svg(panels: &[Growth]) -> String {
 
 struct Panel<'a> {
     growth: &'a Growth,
-    /// The largest size and time.
+    /// How far the axes of sizes and times go.
     most: (f64, f64),
 }
 
@@ -59,7 +62,10 @@ impl Panel<'_> {
         let times = growth.points.iter().flat_map(|(_, times)| *times);
         Panel {
             growth,
-            most: (sizes.fold(1.0, f64::max), times.fold(1.0, f64::max)),
+            most: (
+                sizes.fold(1.0, f64::max),
+                times.fold(1.0, f64::max) * HEADROOM,
+            ),
         }
     }
 
@@ -85,17 +91,14 @@ impl Panel<'_> {
 
     fn draw_axes(&self, text: &mut String) {
         let (left, right, top, bottom) = (LEFT, WIDTH - RIGHT, TOP, HEIGHT - BOTTOM);
-        *text += &format!(
-            "<path d=\"M{left} {top}V{bottom}H{right}\" fill=\"none\" stroke=\"black\"/>\n\
-             <text x=\"{:.0}\" y=\"{:.0}\" text-anchor=\"middle\">{}</text>\n\
-             <text x=\"14\" y=\"{:.0}\" text-anchor=\"middle\" \
-             transform=\"rotate(-90 14 {:.0})\">nanoseconds</text>\n",
-            (left + right) / 2.0,
-            bottom + 38.0,
-            self.growth.unit,
-            (top + bottom) / 2.0,
-            (top + bottom) / 2.0,
-        );
+        for time in ticks(self.most.1) {
+            let (x, y) = (left - 7.0, self.y(time));
+            *text += &format!(
+                "<path d=\"M{left} {y:.1}H{right}\" stroke=\"#ddd\"/>\
+                 <text x=\"{x}\" y=\"{:.1}\" text-anchor=\"end\">{time}</text>\n",
+                y + 4.0
+            );
+        }
         for size in ticks(self.most.0) {
             let (x, y) = (self.x(size), bottom + 16.0);
             *text += &format!(
@@ -103,14 +106,17 @@ impl Panel<'_> {
                  <text x=\"{x:.1}\" y=\"{y}\" text-anchor=\"middle\">{size}</text>\n"
             );
         }
-        for time in ticks(self.most.1) {
-            let (x, y) = (left - 7.0, self.y(time));
-            *text += &format!(
-                "<path d=\"M{left} {y:.1}h-4M{left} {y:.1}H{right}\" stroke=\"#ddd\"/>\
-                 <text x=\"{x}\" y=\"{:.1}\" text-anchor=\"end\">{time}</text>\n",
-                y + 4.0
-            );
-        }
+        let middle = ((left + right) / 2.0, (top + bottom) / 2.0);
+        *text += &format!(
+            "<path d=\"M{left} {top}V{bottom}H{right}\" fill=\"none\" stroke=\"black\"/>\n\
+             <text x=\"{}\" y=\"{}\" text-anchor=\"middle\">{}</text>\n\
+             <text x=\"14\" y=\"{y}\" text-anchor=\"middle\" \
+             transform=\"rotate(-90 14 {y})\">nanoseconds</text>\n",
+            middle.0,
+            bottom + 38.0,
+            self.growth.unit,
+            y = middle.1,
+        );
     }
 
     fn draw_line(&self, text: &mut String, i: usize, name: &str, colour: &str) {
