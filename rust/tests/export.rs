@@ -5,8 +5,9 @@ mod common;
 use ledgerwren::*;
 use std::env;
 use std::io::Write;
-use std::path::PathBuf;
+use std::path::{Path, PathBuf};
 use std::process::{Output, Stdio};
+use std::time::SystemTime;
 
 const CID: Cid = [7; 16];
 const REFUSED: &[u8] = b"no packet at all";
@@ -67,6 +68,11 @@ fn capture(entries: &[Vec<u8>]) -> Vec<u8> {
     bytes
 }
 
+fn date(file: &Path) -> SystemTime {
+    let date = file.metadata().and_then(|file| file.modified());
+    date.unwrap_or_else(|error| panic!("{}: {error}", file.display()))
+}
+
 /// Runs the example, which cargo builds beside the tests.
 fn export(words: &[&str], input: &[u8]) -> Output {
     // Under an emulator the running file is the loader; the first word is the test itself.
@@ -76,7 +82,12 @@ fn export(words: &[&str], input: &[u8]) -> Output {
         .nth(2)
         .expect("the folder of what cargo built");
     let program = folder.join("examples/export");
-    assert!(program.is_file(), "{} is not built", program.display());
+    // With `--test` alone cargo does not build examples, and an older one would be tested.
+    let source = Path::new(env!("CARGO_MANIFEST_DIR")).join("examples/export.rs");
+    assert!(
+        date(&program) >= date(&source),
+        "the example is older than its source: run all tests"
+    );
     let mut child = common::start(program.to_str().expect("a path in UTF-8"))
         .args(words)
         .stdin(Stdio::piped())
