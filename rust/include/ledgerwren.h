@@ -106,8 +106,8 @@ typedef struct {
     uint16_t port;
 } LedgerwrenIpv4Address;
 
-/* What was read. What the kind does not have is zero. The name has no zero behind it that would
- * count; universes are two bytes each, the higher first. */
+/* What was read. What the kind does not have is zero. The name ends before its zero; universes are
+ * two bytes each, the higher first. */
 typedef struct {
     uint8_t kind;
     uint8_t cid[16];

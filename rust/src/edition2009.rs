@@ -63,12 +63,12 @@ pub struct DataPacket2009<'a> {
 #[inline]
 pub fn parse_2009(datagram: &[u8]) -> Result<DataPacket2009<'_>, Refusal> {
     let reading = ffi::parse_2009(datagram);
-    if reading.found.kind != ffi::DATA {
-        return Err(reading.found.refusal);
+    if reading.found().kind != ffi::DATA {
+        return Err(reading.found().refusal);
     }
-    let fields = &reading.found.data_fields;
+    let fields = &reading.found().data_fields;
     Ok(DataPacket2009 {
-        cid: reading.found.cid,
+        cid: reading.found().cid,
         source_name: reading.name(),
         priority: fields.priority,
         sequence_number: fields.sequence_number,

@@ -167,14 +167,19 @@ impl Outcome {
     }
 }
 
-/// What was found in a datagram, beside that datagram. Only `parse` makes one, so the places are
-/// those of this datagram.
+/// What was found in a datagram, beside that datagram. Only `parse` makes one and nobody changes it,
+/// so the places are those of this datagram.
 pub(crate) struct Reading<'a> {
     datagram: &'a [u8],
-    pub(crate) found: Found,
+    found: Found,
 }
 
 impl<'a> Reading<'a> {
+    #[inline]
+    pub(crate) fn found(&self) -> &Found {
+        &self.found
+    }
+
     #[inline]
     pub(crate) fn name(&self) -> &'a str {
         // SAFETY: the places are those that the reader found in this datagram.
@@ -195,10 +200,15 @@ impl<'a> Reading<'a> {
 /// The same for the 2009 reader; only `parse_2009` makes one.
 pub(crate) struct Reading2009<'a> {
     datagram: &'a [u8],
-    pub(crate) found: Found2009,
+    found: Found2009,
 }
 
 impl<'a> Reading2009<'a> {
+    #[inline]
+    pub(crate) fn found(&self) -> &Found2009 {
+        &self.found
+    }
+
     #[inline]
     pub(crate) fn name(&self) -> &'a str {
         // SAFETY: the places are those that the reader found in this datagram.

@@ -118,21 +118,21 @@ pub struct UniverseDiscoveryPacket<'a> {
 #[inline]
 pub fn parse(datagram: &[u8]) -> Result<Packet<'_>, Refusal> {
     let reading = ffi::parse(datagram);
-    let data = match reading.found.kind {
+    let data = match reading.found().kind {
         ffi::DATA => PacketData::DataPacket(data(&reading)),
         ffi::SYNCHRONIZATION => PacketData::SynchronizationPacket(synchronization(&reading)),
         ffi::DISCOVERY => PacketData::UniverseDiscoveryPacket(discovery(&reading)),
-        _ => return Err(reading.found.refusal),
+        _ => return Err(reading.found().refusal),
     };
     Ok(Packet {
-        cid: reading.found.cid,
+        cid: reading.found().cid,
         data,
     })
 }
 
 #[inline]
 fn data<'a>(reading: &ffi::Reading<'a>) -> DataPacket<'a> {
-    let fields = &reading.found.data_fields;
+    let fields = &reading.found().data_fields;
     DataPacket {
         source_name: reading.name(),
         priority: fields.priority,
@@ -148,7 +148,7 @@ fn data<'a>(reading: &ffi::Reading<'a>) -> DataPacket<'a> {
 
 #[inline]
 fn synchronization(reading: &ffi::Reading<'_>) -> SynchronizationPacket {
-    let fields = &reading.found.synchronization_fields;
+    let fields = &reading.found().synchronization_fields;
     SynchronizationPacket {
         sequence_number: fields.sequence_number,
         synchronization_address: fields.synchronization_address,
@@ -157,7 +157,7 @@ fn synchronization(reading: &ffi::Reading<'_>) -> SynchronizationPacket {
 
 #[inline]
 fn discovery<'a>(reading: &ffi::Reading<'a>) -> UniverseDiscoveryPacket<'a> {
-    let fields = &reading.found.discovery_fields;
+    let fields = &reading.found().discovery_fields;
     UniverseDiscoveryPacket {
         source_name: reading.name(),
         page: fields.page,
