@@ -7,11 +7,11 @@
 //!   test `header` compares both files, and the other tests see a different value in every field.
 //! - A call reads and writes within the lengths it is given, keeps no pointer, and returns. That is
 //!   proved, for every input, of the code behind it.
-//! - The name that the reader finds is well-formed UTF-8. That is proved, too, by Unicode's table;
-//!   a second look at each name would cost as much as the reading.
+//! - The name that the reader finds is well-formed UTF-8. That is proved, too, by Unicode's table; a
+//!   second look at a name of 22 bytes made the reading of its packet a tenth longer.
 //!
-//! Where a part stands in a datagram is proved as well, but slicing checks it again, at no cost that
-//! could be measured.
+//! Where a part stands in a datagram is proved as well, but slicing checks it again: that costs one
+//! hundredth.
 
 use crate::Refusal;
 
