@@ -20,7 +20,7 @@ install_packages() { # PACKAGE...
     apt-get update >&2 && apt-get install -y --no-install-recommends "${missing[@]}" >&2
 }
 
-# Copies our project to the build folder, where cargo may write, and sets the words for cargo.
+# Copies our projects to the build folder, where cargo may write, and sets the words for cargo.
 prepare_rust() { # SOURCES
     local f
     for f in packet.rs error.rs sacn_parse_pack_error.rs; do
@@ -38,25 +38,38 @@ prepare_rust() { # SOURCES
     [ -d "$registry" ] || die "librust-byteorder-dev has no folder of sources"
     cargo_words=(--offline --config 'source.crates-io.replace-with="debian"'
         --config "source.debian.directory=\"$registry\"")
-    mkdir -p "$build/project"
-    cp -Rp "$here/Cargo.toml" "$here/sacn" "$here/judge" "$build/project/"
+    project=$build/project/compare
+    mkdir -p "$project" "$build/project/rust"
+    cp -Rp "$here/Cargo.toml" "$here/sacn" "$here/judge" "$here/edge-speed" "$project/"
+    cp -Rp "$root/rust/Cargo.toml" "$root/rust/build.rs" "$root/rust/src" "$build/project/rust/"
 }
 
 # Builds our Rust programs for this machine; `rust` is their folder.
 build_rust() { # SOURCES
     prepare_rust "$1"
-    (cd "$build/project" && cargo "${cargo_words[@]}" build --release --target-dir "$build/rust") ||
+    (cd "$project" && cargo "${cargo_words[@]}" build --release --target-dir "$build/rust") ||
         die "the Rust side was not built"
     rust=$build/rust/release
 }
 
-# Proves and builds the Rattle programs and sets `start`, the words that start one.
-build_rattle() { # NAME...
+# Has rt prove and build Rattle crates, and sets `start`, the words that start an x86-64 program.
+run_rt() { # COMMAND NAME...
     local name
-    for name in "$@"; do
+    for name in "${@:2}"; do
         [ -d "$root/crates/$name" ] || die "the repository has no crates/$name"
     done
     command -v rt >/dev/null || die "rt, the toolchain's command, is needed"
-    (cd "$root" && rt check "$@") >&2 || die "the Rattle side was not proved"
+    (cd "$root" && rt "$@") >&2 || die "the Rattle side was not proved"
     . "$root/start.sh"
+}
+
+# Proves and builds the Rattle programs.
+build_rattle() { # NAME...
+    run_rt check "$@"
+}
+
+# Proves and builds what Rust and C link, and says where it is.
+build_archive() {
+    run_rt staticlib exports
+    export LEDGERWREN_LIB_DIR=$root/target/staticlib
 }

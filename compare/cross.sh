@@ -1,5 +1,8 @@
-# The Rust baseline for x86-64 on a machine of another kind, so that it can run under the same
-# emulator as the Rattle program. Sourced by bash after common.sh, build_rust and build_rattle.
+# Rust for x86-64 on a machine of another kind, so that it can link the Rattle code and run under the
+# same emulator. Sourced by bash after common.sh; run_rt comes first, for it finds the emulator.
+
+target=x86_64-unknown-linux-gnu
+built=$build/x86-64
 
 # Unpacks Debian's newest rustc for this machine with the standard libraries for both machines. They
 # are unpacked and not installed: another rustc may stand in their place.
@@ -21,9 +24,12 @@ unpack_rustc() { # FOLDER
     unset APT_CONFIG
     local deb
     for deb in "$1"/debs/*.deb; do dpkg -x "$deb" "$1/root"; done
-    printf '#!/bin/sh\nLD_LIBRARY_PATH=%s exec %s "$@"\n' \
-        "$(dirname "$(find "$1/root" -name 'librustc_driver-*.so')")" "$1/root/usr/bin/rustc" >"$1/rustc"
-    chmod +x "$1/rustc"
+    local tool libraries
+    libraries=$(dirname "$(find "$1/root" -name 'librustc_driver-*.so')")
+    for tool in rustc rustdoc; do
+        printf '#!/bin/sh\nLD_LIBRARY_PATH=%s exec %s "$@"\n' "$libraries" "$1/root/usr/bin/$tool" >"$1/$tool"
+        chmod +x "$1/$tool"
+    done
 }
 
 # Writes a linker for x86-64 out of the kit's: it adds the C start files and finds the C library.
@@ -48,16 +54,40 @@ EOF
     chmod +x "$1/ld"
 }
 
-# Builds the baseline for x86-64; `baseline` is its path.
-build_cross() {
+# Has cargo build for x86-64 from here on: by itself on such a machine, else with that compiler, to run
+# under the emulator. The C compiler for the tests is then the kit's, with the headers of this machine's.
+prepare_x86() {
+    [ -n "$emulated" ] || return 0
     local folder=$build/cross
-    [ -x "$folder/rustc" ] || unpack_rustc "$folder"
+    [ -x "$folder/rustdoc" ] || unpack_rustc "$folder"
     make_linker "$folder"
-    (cd "$build/project" &&
-        RUSTC=$folder/rustc CARGO_TARGET_X86_64_UNKNOWN_LINUX_GNU_LINKER=$folder/ld \
-            cargo "${cargo_words[@]}" build --release --bin rdump \
-            --target x86_64-unknown-linux-gnu --target-dir "$folder/target") ||
-        die "the baseline was not built for x86-64"
-    baseline=$folder/target/x86_64-unknown-linux-gnu/release/rdump
-    compiler=$("$folder/rustc" --version)
+    export RUSTC=$folder/rustc RUSTDOC=$folder/rustdoc
+    export CARGO_TARGET_X86_64_UNKNOWN_LINUX_GNU_LINKER=$folder/ld
+    export CARGO_TARGET_X86_64_UNKNOWN_LINUX_GNU_RUNNER="${start[*]}"
+    # A trace would read /proc/self/maps as well, and a panic would not be told.
+    export RUST_BACKTRACE=0
+    export LEDGERWREN_CC="$tools/bin/clang --target=x86_64-linux-gnu -ffreestanding \
+        -isystem $(cc -print-file-name=include) -fPIE -pie -nostdlib --ld-path=$folder/ld"
+}
+
+cargo_x86() { # FOLDER COMMAND WORDS...
+    (cd "$1" && cargo "${cargo_words[@]}" "$2" --target "$target" --target-dir "$built" "${@:3}")
+}
+
+# Runs a program that cargo_x86 built for release.
+run_x86() { # NAME WORDS...
+    local words=("$built/$target/release/$1" "${@:2}")
+    [ -z "$emulated" ] || words=("${start[@]}" "${words[@]}")
+    "${words[@]}"
+}
+
+# Says on what machine something is timed, and by which compiler it was built.
+tell_machine() { # WHAT
+    if [ -n "$emulated" ]; then
+        echo "This machine is $(uname -m): $1 are x86-64 code under one emulator, loader and C library,"
+        echo "the Rust by $("$RUSTC" --version), opt-level 3."
+        echo "The times compare emulated work; they are not the times of an x86-64 processor."
+    else
+        echo "This machine is $(uname -m): $1 run on its processor, the Rust by $(rustc --version), opt-level 3."
+    fi
 }

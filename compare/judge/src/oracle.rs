@@ -140,7 +140,8 @@ fn name_refusal(record: &Record) -> Option<u8> {
     }
 }
 
-fn packet_of(record: &Record) -> AcnRootLayerProtocol<'_> {
+/// A record as the crate takes it; its name is well-formed UTF-8.
+pub fn packet_of(record: &Record) -> AcnRootLayerProtocol<'_> {
     let (cid, data) = match record {
         Record::Data(r) => (r.cid, E131RootLayerData::DataPacket(data_of(r))),
         Record::Sync(r) => (

@@ -1,0 +1,337 @@
+//! The boundary: what the static library exports, and a safe function over each call. This is the
+//! only file with `unsafe`.
+//!
+//! Taken on trust here, and nowhere else:
+//!
+//! - The declarations are those of `crates/exports/src/lib.rt`. Nothing in a linker checks that; the
+//!   test `header` compares both files, and the other tests see a different value in every field.
+//! - A call reads and writes within the lengths it is given, keeps no pointer, and returns. That is
+//!   proved, for every input, of the code behind it.
+//! - The name that the reader finds is well-formed UTF-8. That is proved, too, by Unicode's table; a
+//!   second look at a name of 22 bytes made the reading of its packet a tenth longer.
+//!
+//! Where a part stands in a datagram is proved as well, but slicing checks it again: that costs one
+//! hundredth.
+
+use crate::Refusal;
+
+pub(crate) const DATA: u8 = 1;
+pub(crate) const SYNCHRONIZATION: u8 = 2;
+pub(crate) const DISCOVERY: u8 = 3;
+
+#[repr(C)]
+#[derive(Clone, Copy)]
+struct Place {
+    start: usize,
+    len: usize,
+}
+
+#[repr(C)]
+#[derive(Clone, Copy)]
+pub(crate) struct DataFields {
+    pub(crate) priority: u8,
+    pub(crate) synchronization_address: u16,
+    pub(crate) sequence_number: u8,
+    pub(crate) preview_data: bool,
+    pub(crate) stream_terminated: bool,
+    pub(crate) force_synchronization: bool,
+    pub(crate) universe: u16,
+}
+
+#[repr(C)]
+#[derive(Clone, Copy)]
+pub(crate) struct SynchronizationFields {
+    pub(crate) sequence_number: u8,
+    pub(crate) synchronization_address: u16,
+}
+
+#[repr(C)]
+#[derive(Clone, Copy)]
+pub(crate) struct DiscoveryFields {
+    pub(crate) page: u8,
+    pub(crate) last_page: u8,
+}
+
+#[repr(C)]
+#[derive(Clone, Copy)]
+pub(crate) struct DataFields2009 {
+    pub(crate) priority: u8,
+    pub(crate) sequence_number: u8,
+    pub(crate) preview_data: bool,
+    pub(crate) stream_terminated: bool,
+    pub(crate) universe: u16,
+}
+
+#[repr(C)]
+pub(crate) struct Ipv4Address {
+    pub(crate) highest: u8,
+    pub(crate) second: u8,
+    pub(crate) third: u8,
+    pub(crate) lowest: u8,
+    pub(crate) port: u16,
+}
+
+#[repr(C)]
+pub(crate) struct Found {
+    pub(crate) kind: u8,
+    pub(crate) cid: [u8; 16],
+    pub(crate) refusal: Refusal,
+    pub(crate) data_fields: DataFields,
+    pub(crate) synchronization_fields: SynchronizationFields,
+    pub(crate) discovery_fields: DiscoveryFields,
+    name: Place,
+    values: Place,
+    universes: Place,
+}
+
+#[repr(C)]
+pub(crate) struct Found2009 {
+    pub(crate) kind: u8,
+    pub(crate) cid: [u8; 16],
+    pub(crate) refusal: Refusal,
+    pub(crate) data_fields: DataFields2009,
+    name: Place,
+    values: Place,
+}
+
+#[repr(C)]
+pub(crate) struct DataHeader {
+    pub(crate) cid: [u8; 16],
+    pub(crate) fields: DataFields,
+}
+
+#[repr(C)]
+pub(crate) struct SynchronizationHeader {
+    pub(crate) cid: [u8; 16],
+    pub(crate) fields: SynchronizationFields,
+}
+
+#[repr(C)]
+pub(crate) struct DiscoveryHeader {
+    pub(crate) cid: [u8; 16],
+    pub(crate) fields: DiscoveryFields,
+}
+
+#[repr(C)]
+struct Outcome {
+    refusal: Refusal,
+    count: usize,
+}
+
+#[repr(C)]
+struct Address {
+    refusal: Refusal,
+    address: Ipv4Address,
+}
+
+extern "C" {
+    fn ledgerwren_parse(datagram: *const u8, datagram_len: usize) -> Found;
+    fn ledgerwren_parse_2009(datagram: *const u8, datagram_len: usize) -> Found2009;
+    fn ledgerwren_copy_universes(
+        datagram: *const u8,
+        datagram_len: usize,
+        out: *mut u16,
+        out_len: usize,
+    ) -> Outcome;
+    fn ledgerwren_pack_data(
+        buf: *mut u8,
+        buf_len: usize,
+        header: DataHeader,
+        name: *const u8,
+        name_len: usize,
+        values: *const u8,
+        values_len: usize,
+    ) -> Outcome;
+    fn ledgerwren_pack_synchronization(
+        buf: *mut u8,
+        buf_len: usize,
+        header: SynchronizationHeader,
+    ) -> Outcome;
+    fn ledgerwren_pack_discovery(
+        buf: *mut u8,
+        buf_len: usize,
+        header: DiscoveryHeader,
+        name: *const u8,
+        name_len: usize,
+        universes: *const u16,
+        universes_len: usize,
+    ) -> Outcome;
+    fn ledgerwren_is_universe_in_range(universe: u16) -> Refusal;
+    fn ledgerwren_universe_to_ipv4_multicast_addr(universe: u16) -> Address;
+}
+
+impl Outcome {
+    #[inline]
+    fn result(self) -> Result<usize, Refusal> {
+        self.refusal.unless_none().map(|()| self.count)
+    }
+}
+
+/// What was found in a datagram, beside that datagram. Only `parse` makes one and nobody changes it,
+/// so the places are those of this datagram.
+pub(crate) struct Reading<'a> {
+    datagram: &'a [u8],
+    found: Found,
+}
+
+impl<'a> Reading<'a> {
+    #[inline]
+    pub(crate) fn found(&self) -> &Found {
+        &self.found
+    }
+
+    #[inline]
+    pub(crate) fn name(&self) -> &'a str {
+        // SAFETY: the places are those that the reader found in this datagram.
+        unsafe { name_at(self.datagram, self.found.name) }
+    }
+
+    #[inline]
+    pub(crate) fn values(&self) -> &'a [u8] {
+        part(self.datagram, self.found.values)
+    }
+
+    #[inline]
+    pub(crate) fn universes(&self) -> &'a [u8] {
+        part(self.datagram, self.found.universes)
+    }
+}
+
+/// The same for the 2009 reader; only `parse_2009` makes one.
+pub(crate) struct Reading2009<'a> {
+    datagram: &'a [u8],
+    found: Found2009,
+}
+
+impl<'a> Reading2009<'a> {
+    #[inline]
+    pub(crate) fn found(&self) -> &Found2009 {
+        &self.found
+    }
+
+    #[inline]
+    pub(crate) fn name(&self) -> &'a str {
+        // SAFETY: the places are those that the reader found in this datagram.
+        unsafe { name_at(self.datagram, self.found.name) }
+    }
+
+    #[inline]
+    pub(crate) fn values(&self) -> &'a [u8] {
+        part(self.datagram, self.found.values)
+    }
+}
+
+#[inline]
+fn part(datagram: &[u8], place: Place) -> &[u8] {
+    &datagram[place.start..][..place.len]
+}
+
+/// The name at a place.
+///
+/// # Safety
+///
+/// The place is one that a reader answered as the name's for this datagram.
+#[inline]
+unsafe fn name_at(datagram: &[u8], place: Place) -> &str {
+    // SAFETY: a reader takes a name only where it is well-formed UTF-8, and the place of no name is
+    // empty.
+    unsafe { std::str::from_utf8_unchecked(part(datagram, place)) }
+}
+
+#[inline]
+pub(crate) fn parse(datagram: &[u8]) -> Reading<'_> {
+    // SAFETY: pointer and length are one live slice's, which the call only reads.
+    let found = unsafe { ledgerwren_parse(datagram.as_ptr(), datagram.len()) };
+    Reading { datagram, found }
+}
+
+#[inline]
+pub(crate) fn parse_2009(datagram: &[u8]) -> Reading2009<'_> {
+    // SAFETY: pointer and length are one live slice's, which the call only reads.
+    let found = unsafe { ledgerwren_parse_2009(datagram.as_ptr(), datagram.len()) };
+    Reading2009 { datagram, found }
+}
+
+#[inline]
+pub(crate) fn copy_universes(datagram: &[u8], out: &mut [u16]) -> Result<usize, Refusal> {
+    // SAFETY: pointers and lengths are those of two live slices. They do not overlap, since `out` is
+    // borrowed alone; only `out` is written.
+    let outcome = unsafe {
+        ledgerwren_copy_universes(
+            datagram.as_ptr(),
+            datagram.len(),
+            out.as_mut_ptr(),
+            out.len(),
+        )
+    };
+    outcome.result()
+}
+
+#[inline]
+pub(crate) fn pack_data(
+    buf: &mut [u8],
+    header: DataHeader,
+    name: &str,
+    values: &[u8],
+) -> Result<usize, Refusal> {
+    // SAFETY: pointers and lengths are those of three live slices. `buf` overlaps neither of the
+    // others, since it is borrowed alone; only `buf` is written.
+    let outcome = unsafe {
+        ledgerwren_pack_data(
+            buf.as_mut_ptr(),
+            buf.len(),
+            header,
+            name.as_ptr(),
+            name.len(),
+            values.as_ptr(),
+            values.len(),
+        )
+    };
+    outcome.result()
+}
+
+#[inline]
+pub(crate) fn pack_synchronization(
+    buf: &mut [u8],
+    header: SynchronizationHeader,
+) -> Result<usize, Refusal> {
+    // SAFETY: pointer and length are one live slice's, which is borrowed alone.
+    let outcome = unsafe { ledgerwren_pack_synchronization(buf.as_mut_ptr(), buf.len(), header) };
+    outcome.result()
+}
+
+#[inline]
+pub(crate) fn pack_discovery(
+    buf: &mut [u8],
+    header: DiscoveryHeader,
+    name: &str,
+    universes: &[u16],
+) -> Result<usize, Refusal> {
+    // SAFETY: pointers and lengths are those of three live slices. `buf` overlaps neither of the
+    // others, since it is borrowed alone; only `buf` is written.
+    let outcome = unsafe {
+        ledgerwren_pack_discovery(
+            buf.as_mut_ptr(),
+            buf.len(),
+            header,
+            name.as_ptr(),
+            name.len(),
+            universes.as_ptr(),
+            universes.len(),
+        )
+    };
+    outcome.result()
+}
+
+#[inline]
+pub(crate) fn is_universe_in_range(universe: u16) -> Result<(), Refusal> {
+    // SAFETY: a number goes in and numbers come out.
+    unsafe { ledgerwren_is_universe_in_range(universe) }.unless_none()
+}
+
+#[inline]
+pub(crate) fn universe_to_ipv4_multicast_addr(universe: u16) -> Result<Ipv4Address, Refusal> {
+    // SAFETY: a number goes in and numbers come out.
+    let answer = unsafe { ledgerwren_universe_to_ipv4_multicast_addr(universe) };
+    answer.refusal.unless_none().map(|()| answer.address)
+}

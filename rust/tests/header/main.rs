@@ -1,0 +1,149 @@
+//! The declarations for C and for Rust are those of the Rattle sources. Nothing in a compiler or a
+//! linker sees to that, so this test reads the three and compares each field and each parameter.
+
+mod c;
+mod interface;
+mod rattle;
+mod rust;
+mod syntax;
+
+use interface::Interface;
+use syntax::Constants;
+
+fn assert_same(declared: &Interface, exported: &Interface) {
+    let differences = declared.differences(exported);
+    assert!(differences.is_empty(), "{}", differences.join("\n"));
+}
+
+#[test]
+fn the_header_declares_what_is_exported() {
+    assert_same(
+        &c::declared(c::header()),
+        &rattle::exported(&rattle::sources()),
+    );
+}
+
+#[test]
+fn the_boundary_declares_what_is_exported() {
+    let mut exported = rattle::exported(&rattle::sources());
+    exported.constants.clear();
+    assert_same(&rust::declared(rust::boundary()), &exported);
+}
+
+#[test]
+fn the_exports_are_eight_functions_over_fourteen_structs() {
+    // A reader of sources that finds nothing would find no difference either.
+    let exported = rattle::exported(&rattle::sources());
+    assert_eq!(exported.functions.len(), 8);
+    assert_eq!(exported.structs.len(), 14);
+    assert_eq!(exported.constants.len(), 4 + 22 + 7);
+}
+
+/// `INVALID_PRIORITY` as `InvalidPriority`.
+fn camel(name: &str) -> String {
+    let words = name
+        .split('_')
+        .map(|word| word[..1].to_string() + &word[1..].to_lowercase());
+    words.collect()
+}
+
+#[test]
+fn the_enums_have_the_numbers_of_the_refusals() {
+    let (numbers, places) = rattle::numbers_and_places(&rattle::sources());
+    let in_rust =
+        |list: Constants| -> Vec<_> { list.iter().map(|(name, n)| (camel(name), *n)).collect() };
+    let mut checks = vec![("Unknown".to_string(), 0)];
+    checks.extend(in_rust(numbers));
+    assert_eq!(rust::variants("Check"), checks);
+    // Nowhere is no layer.
+    assert_eq!(rust::variants("Layer"), in_rust(places)[1..]);
+}
+
+#[test]
+fn the_kinds_have_their_numbers() {
+    // What is none of the others is a refusal, so that kind has no name in Rust.
+    assert_eq!(rust::kinds(), rattle::kinds(&rattle::sources())[1..]);
+}
+
+/// Other types of the same size, other names, other orders.
+fn edits(text: &str) -> Vec<String> {
+    let mut edited = Vec::new();
+    let lines: Vec<&str> = text.lines().collect();
+    for (i, line) in lines.iter().enumerate() {
+        let mut replace = |line: String| {
+            let mut lines: Vec<&str> = lines.clone();
+            lines[i] = &line;
+            edited.push(lines.join("\n"));
+        };
+        for (from, to) in [
+            ("uint8_t", "bool"),
+            ("uint16_t", "int16_t"),
+            ("size_t", "uint64_t"),
+        ] {
+            if line.contains(from) {
+                replace(line.replacen(from, to, 1));
+            }
+        }
+        if line.starts_with("    ") && line.ends_with(';') {
+            replace(line.replace(';', "_;"));
+        }
+    }
+    edited
+}
+
+#[test]
+fn a_change_in_the_header_is_seen() {
+    let exported = rattle::exported(&rattle::sources());
+    let edited = edits(c::header());
+    assert!(edited.len() > 60, "only {} edits were made", edited.len());
+    for header in edited {
+        assert!(
+            !c::declared(&header).differences(&exported).is_empty(),
+            "{header}"
+        );
+    }
+}
+
+/// Swaps two fields or parameters, which the test has to see in each file.
+fn swapped(text: &str, first: &str, second: &str) -> String {
+    let edited = text.replacen(&format!("{first}{second}"), &format!("{second}{first}"), 1);
+    assert_ne!(edited, text, "{first}{second} is not there");
+    edited
+}
+
+#[test]
+fn another_order_is_seen() {
+    let sources = rattle::sources();
+    let exported = rattle::exported(&sources);
+    let header = swapped(
+        c::header(),
+        "    bool preview_data;\n",
+        "    bool stream_terminated;\n",
+    );
+    assert_eq!(c::declared(&header).differences(&exported).len(), 1);
+    for (file, first, second) in [
+        (
+            "universe/lib.rt",
+            "    pub highest: u8,\n",
+            "    pub second: u8,\n",
+        ),
+        (
+            "exports/lib.rt",
+            "    name: &[u8],\n",
+            "    values: &[u8],\n",
+        ),
+    ] {
+        let mut sources = sources.clone();
+        let text = swapped(&sources[file], first, second);
+        sources.insert(file.to_string(), text);
+        let exported = rattle::exported(&sources);
+        assert_eq!(
+            c::declared(c::header()).differences(&exported).len(),
+            1,
+            "{file}"
+        );
+        assert!(!rust::declared(rust::boundary())
+            .differences(&exported)
+            .is_empty());
+    }
+}

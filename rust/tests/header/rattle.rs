@@ -1,0 +1,114 @@
+//! What the Rattle sources export.
+
+use crate::interface::{Interface, Item, TYPE_PREFIX};
+use crate::syntax::{between, c_type, constants, in_c, repr_c_structs, typed_names};
+use crate::syntax::{without_comments, Constants};
+use std::collections::BTreeMap;
+use std::fs;
+use std::path::Path;
+
+/// The first of the places; the constants before it are the numbers of refusals.
+const FIRST_PLACE: &str = "NOWHERE";
+
+/// The sources, by their paths below `crates`.
+pub type Sources = BTreeMap<String, String>;
+
+pub fn sources() -> Sources {
+    let crates = Path::new(env!("CARGO_MANIFEST_DIR")).join("../crates");
+    let mut sources = Sources::new();
+    for folder in fs::read_dir(&crates).expect("the folder crates") {
+        let name = folder.expect("a folder of crates").file_name();
+        let src = crates.join(&name).join("src");
+        // A crate of theorems alone has no code.
+        for file in fs::read_dir(src).into_iter().flatten() {
+            let file = file.expect("a file of src").path();
+            let text = fs::read_to_string(&file).expect("a source file");
+            let short = file.file_name().expect("a file's name");
+            sources.insert(
+                format!("{}/{}", name.to_string_lossy(), short.to_string_lossy()),
+                text,
+            );
+        }
+    }
+    sources
+}
+
+/// The refusals' numbers and the places, by their names in the crate `refusal`.
+pub fn numbers_and_places(sources: &Sources) -> (Constants, Constants) {
+    let mut numbers = constants(&sources["refusal/lib.rt"]);
+    let first = numbers.iter().position(|(name, _)| name == FIRST_PLACE);
+    let places = numbers.split_off(first.expect("the first place"));
+    (numbers, places)
+}
+
+pub fn kinds(sources: &Sources) -> Constants {
+    constants(&sources["exports/lib.rt"])
+}
+
+/// The header as the sources have it: the exported functions, the structs that they name, and theirs.
+pub fn exported(sources: &Sources) -> Interface {
+    let mut interface = Interface::default();
+    let (numbers, places) = numbers_and_places(sources);
+    for (prefix, list) in [
+        ("KIND", kinds(sources)),
+        ("REFUSAL", numbers),
+        ("PLACE", places),
+    ] {
+        let named = list.into_iter();
+        let named = named.map(|(name, value)| (format!("LEDGERWREN_{prefix}_{name}"), value));
+        interface.constants.extend(named);
+    }
+    add_functions(&mut interface, &sources["exports/lib.rt"]);
+    add_structs(&mut interface, &all_structs(sources));
+    interface
+}
+
+fn add_functions(interface: &mut Interface, text: &str) {
+    let text = without_comments(text);
+    for rest in text.split("#[no_mangle]").skip(1) {
+        let (name, rest) =
+            between(rest, "pub extern \"C\" fn ", "(").expect("an exported function");
+        let (parameters, rest) = rest.split_once(')').expect("the parameters' end");
+        let (_, rest) = rest.split_once("->").expect("a result");
+        let result = rest.split_whitespace().next().expect("a result's type");
+        let parameters = typed_names(parameters);
+        let parameters = parameters.into_iter().flat_map(in_registers).collect();
+        interface.add_function(name, parameters, c_type(result));
+    }
+}
+
+/// A slice is a pointer and a length; all else is itself.
+fn in_registers((name, kind): Item) -> Vec<Item> {
+    let Some((element, _)) = between(&kind, "[", "]").filter(|_| kind.starts_with('&')) else {
+        return vec![(name, c_type(&kind))];
+    };
+    let pointer = if kind.starts_with("&mut ") {
+        format!("*mut {element}")
+    } else {
+        format!("*const {element}")
+    };
+    let length = format!("{name}_len");
+    in_c(vec![(name, pointer), (length, "usize".to_string())])
+}
+
+fn all_structs(sources: &Sources) -> BTreeMap<String, Vec<Item>> {
+    let all = sources.values().flat_map(|text| repr_c_structs(text));
+    all.map(|(name, fields)| (format!("{TYPE_PREFIX}{name}"), in_c(fields)))
+        .collect()
+}
+
+/// Adds each struct that a function or an added struct names.
+fn add_structs(interface: &mut Interface, all: &BTreeMap<String, Vec<Item>>) {
+    let items = interface.functions.values().flatten();
+    let mut wanted: Vec<String> = items.map(|(_, kind)| kind.clone()).collect();
+    while let Some(name) = wanted.pop() {
+        if !name.starts_with(TYPE_PREFIX) || interface.structs.contains_key(&name) {
+            continue;
+        }
+        let fields = all
+            .get(&name)
+            .unwrap_or_else(|| panic!("no #[repr(C)] struct for {name}"));
+        wanted.extend(fields.iter().map(|(_, kind)| kind.clone()));
+        interface.add_struct(&name, fields.clone());
+    }
+}

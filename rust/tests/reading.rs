@@ -1,0 +1,219 @@
+//! Datagrams through the boundary: another value in every field, document 01's examples, and names.
+
+use ledgerwren::*;
+
+const CID: Cid = [1, 2, 3, 4, 5, 6, 7, 8, 9, 10, 11, 12, 13, 14, 15, 16];
+
+/// Document 01's packet S.
+const S: [u8; 49] = *b"\x00\x10\x00\x00ASC-E1.17\x00\x00\x00\x70\x21\x00\x00\x00\x08\
+    \x11\x11\x11\x11\x11\x11\x11\x11\x11\x11\x11\x11\x11\x11\x11\x11\
+    \x70\x0b\x00\x00\x00\x01\x07\x1f\x40\x00\x00";
+
+const NAME: usize = 44;
+
+fn data(source_name: &str) -> DataPacket<'_> {
+    DataPacket {
+        source_name,
+        priority: 100,
+        synchronization_address: 0x1f1a,
+        sequence_number: 154,
+        preview_data: false,
+        stream_terminated: false,
+        force_synchronization: false,
+        universe: 0x0304,
+        property_values: &[0, 255, 128, 7],
+    }
+}
+
+fn datagram(packet: &DataPacket) -> Vec<u8> {
+    let mut buf = vec![0xee; 638];
+    let length = pack_data(&mut buf, CID, packet).expect("a packet that can be written");
+    buf.truncate(length);
+    buf
+}
+
+fn discovery() -> Vec<u8> {
+    let mut buf = vec![0xee; 1144];
+    let packet = UniverseDiscovery {
+        source_name: "Desk é",
+        page: 3,
+        last_page: 5,
+        universes: &[1, 0x0203, 0xfffe],
+    };
+    let length = pack_discovery(&mut buf, CID, &packet).expect("a packet that can be written");
+    buf.truncate(length);
+    buf
+}
+
+/// S with other bytes from a place on.
+fn changed(at: usize, bytes: &[u8]) -> [u8; 49] {
+    let mut datagram = S;
+    datagram[at..at + bytes.len()].copy_from_slice(bytes);
+    datagram
+}
+
+fn refused(datagram: &[u8]) -> (u8, u8, u32) {
+    let refusal = parse(datagram).expect_err("a refusal");
+    (refusal.number(), refusal.place(), refusal.value())
+}
+
+#[test]
+fn every_field_of_data_comes_through() {
+    for option in 0..3 {
+        let packet = DataPacket {
+            preview_data: option == 0,
+            stream_terminated: option == 1,
+            force_synchronization: option == 2,
+            ..data("Desk é")
+        };
+        let datagram = datagram(&packet);
+        let read = parse(&datagram).expect("a data packet");
+        assert_eq!(read.cid, CID);
+        assert_eq!(read.data, PacketData::DataPacket(packet));
+    }
+}
+
+#[test]
+fn name_and_values_are_the_datagrams_own() {
+    let datagram = datagram(&data("Desk é"));
+    let Ok(PacketData::DataPacket(read)) = parse(&datagram).map(|packet| packet.data) else {
+        panic!("a data packet");
+    };
+    assert_eq!(read.source_name.as_ptr(), datagram[NAME..].as_ptr());
+    assert_eq!(read.property_values.as_ptr(), datagram[125..].as_ptr());
+}
+
+#[test]
+fn every_field_of_2009_comes_through() {
+    for option in 0..2 {
+        let packet = DataPacket {
+            preview_data: option == 0,
+            stream_terminated: option == 1,
+            synchronization_address: 64000,
+            ..data("Desk é")
+        };
+        let expected = DataPacket2009 {
+            cid: CID,
+            source_name: "Desk é",
+            priority: 100,
+            sequence_number: 154,
+            preview_data: option == 0,
+            stream_terminated: option == 1,
+            universe: 0x0304,
+            property_values: &[0, 255, 128, 7],
+        };
+        assert_eq!(parse_2009(&datagram(&packet)), Ok(expected));
+    }
+    let refusal = parse_2009(&S).expect_err("S is no data packet");
+    assert_eq!(
+        (refusal.number(), refusal.place(), refusal.value()),
+        (4, 2, 8)
+    );
+}
+
+#[test]
+fn packet_s_is_read() {
+    let expected = Packet {
+        cid: [0x11; 16],
+        data: PacketData::SynchronizationPacket(SynchronizationPacket {
+            sequence_number: 7,
+            synchronization_address: 8000,
+        }),
+    };
+    assert_eq!(parse(&S), Ok(expected));
+}
+
+#[test]
+fn every_field_of_discovery_comes_through() {
+    let datagram = discovery();
+    let read = parse(&datagram).expect("a discovery packet");
+    assert_eq!(read.cid, CID);
+    let PacketData::UniverseDiscoveryPacket(read) = read.data else {
+        panic!("a discovery packet");
+    };
+    assert_eq!(
+        (read.source_name, read.page, read.last_page),
+        ("Desk é", 3, 5)
+    );
+    assert_eq!(
+        read.universes.iter().collect::<Vec<_>>(),
+        [1, 0x0203, 0xfffe]
+    );
+}
+
+#[test]
+fn the_examples_are_refused_as_document_01_says() {
+    assert_eq!(refused(&[]), (1, 1, 0));
+    assert_eq!(refused(&changed(39, &[10])), (5, 3, 10));
+    assert_eq!(refused(&changed(39, &[12])), (1, 3, 0));
+    assert_eq!(refused(&changed(39, &[12, 0, 0, 0, 7])), (4, 3, 7));
+    assert_eq!(refused(&changed(45, &[0, 0])), (9, 3, 0));
+    assert_eq!(refused(&changed(16, &[0x60])), (3, 2, 96));
+    assert_eq!(refused(&changed(17, &[21])), (13, 2, 0));
+    // A value of all 32 bits.
+    assert_eq!(
+        refused(&changed(18, &[0xde, 0xad, 0xbe, 0xef])),
+        (4, 2, 0xdead_beef)
+    );
+}
+
+#[test]
+fn a_cut_datagram_is_refused_and_a_longer_one_read() {
+    for whole in [S.to_vec(), datagram(&data("Desk é")), discovery()] {
+        for length in 0..whole.len() {
+            assert!(
+                parse(&whole[..length]).is_err(),
+                "{length} of {}",
+                whole.len()
+            );
+        }
+        let longer = [&whole[..], &[0xff; 9]].concat();
+        assert_eq!(parse(&longer), parse(&whole));
+    }
+}
+
+/// Reads a data packet with these bytes as its name, and says what came of it.
+fn named<'a>(datagram: &'a mut [u8], name: &[u8]) -> Result<&'a str, u8> {
+    datagram[NAME..NAME + name.len()].copy_from_slice(name);
+    datagram[NAME + name.len()..NAME + 64].fill(0);
+    match parse(datagram) {
+        Ok(Packet {
+            data: PacketData::DataPacket(packet),
+            ..
+        }) => Ok(packet.source_name),
+        Ok(packet) => panic!("{packet:?} is no data packet"),
+        Err(refusal) => Err(refusal.number()),
+    }
+}
+
+/// The name is taken for UTF-8 unseen, so the reader is asked where the library would look.
+#[test]
+fn a_name_is_read_exactly_where_it_is_utf8() {
+    const MALFORMED: u8 = Check::NameNotUtf8 as u8;
+    const THIRD: [u8; 4] = [0x7f, 0x80, 0xbf, 0xc0];
+    let mut datagram = datagram(&data(""));
+    // A zero would end the name.
+    for first in 1..=255 {
+        for second in 1..=255 {
+            for third in THIRD {
+                let name = [first, second, third, 0x80];
+                for name in [&name[..2], &name[..3], &name] {
+                    let expected = std::str::from_utf8(name).map_err(|_| MALFORMED);
+                    assert_eq!(named(&mut datagram, name), expected, "{name:x?}");
+                }
+            }
+        }
+    }
+}
+
+#[test]
+fn rubbish_behind_the_name_is_not_part_of_it() {
+    let mut datagram = datagram(&data("Desk"));
+    datagram[NAME + 5..NAME + 64].fill(0xff);
+    let Ok(PacketData::DataPacket(read)) = parse(&datagram).map(|packet| packet.data) else {
+        panic!("a data packet");
+    };
+    assert_eq!(read.source_name, "Desk");
+    datagram[NAME + 4] = b'n';
+    assert_eq!(refused(&datagram), (6, 3, 0));
+}
