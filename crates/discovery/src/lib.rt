@@ -146,7 +146,7 @@ fn refuse_order(number: u8) -> Checked
 fn still_rising(rising: bool, last: u16, u: u16) -> bool
     ensures { λ r. ⌜ (r ≡ true → (rising ≡ true) × (last < u)) ⌝ }
 {
-    if u <= last {
+    if last >= u {
         return false;
     }
     rising

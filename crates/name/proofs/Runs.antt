@@ -4,14 +4,15 @@ use mathlib.Core.Path.{_≡_, refl, sym, ap, _∙_}
 use mathlib.Core.List.{List, [], _∷_}
 use native.Mathlib.Omega.{arith}
 use native.Mathlib.Nat.{add-zero, zero-add}
-use lib.ListN.{length, drop, getD, length-drop}
-use lib.Seq.{getD-drop}
+use lib.ListN.{length, take, drop, getD, length-drop}
+use lib.Seq.{getD-drop, length-take-le}
 use Rattle.refusal.specs.Check.{_=?_}
 use Rattle.refusal.proofs.Tests.{Holds, chosen, passed-over, decide}
-use Rattle.name.specs.Utf8.{within, leadOf, step, marked, reach}
+use Rattle.name.specs.Utf8.{within, leadOf, step, marked, reach, wholeChars}
 use Rattle.name.specs.Plain.{plainRun}
-use Rattle.name.specs.Name.{zeroAt}
+use Rattle.name.specs.Name.{zeroAt, textOf}
 use Rattle.name.specs.declared.utf8.Expect.the-variants.{Lead}
+use Rattle.name.proofs.Laws.{zero-here, zero-end, reach-end}
 
 -- the first of a run is plain, and the rest is a run
 head : (b : ℕ) (s : List ℕ) (n : ℕ) → suc n ≤ plainRun (b ∷ s) → Holds (within 0x01 0x7f b) × (n ≤ plainRun s)
@@ -49,7 +50,7 @@ pub block-more : (s : List ℕ) (at n : ℕ) → n ≤ plainRun (drop at s) → 
 block-more s at n h k t = run-more (drop at s) n h (omega (arith, length-drop at s)) (rw (getD-drop at s n 0) t)
 
 -- no zero stands in a run
-pub zero-skip : (s : List ℕ) (n : ℕ) → n ≤ plainRun s → n + zeroAt (drop n s) ≡ zeroAt s
+zero-skip : (s : List ℕ) (n : ℕ) → n ≤ plainRun s → n + zeroAt (drop n s) ≡ zeroAt s
 unfolding zeroAt
 zero-skip s zero h = omega arith
 zero-skip [] (suc n) h = absurd (no-run n h)
@@ -69,5 +70,24 @@ reach-skip (b ∷ s) (suc n) k h =
     let e : k + suc n ≡ k + 1 + n = omega arith in
     rw (← l, e) (reach-skip s n (k + 1) (t .1))
 
-pub reach-plain : (s : List ℕ) (n : ℕ) → n ≤ plainRun s → reach Lead n n (drop n s) ≡ reach Lead 0 0 s
+reach-plain : (s : List ℕ) (n : ℕ) → n ≤ plainRun s → reach Lead n n (drop n s) ≡ reach Lead 0 0 s
 reach-plain s n h = sym (ap (λ (m : ℕ). reach Lead m m (drop n s)) (zero-add n)) ∙ reach-skip s n 0 h
+
+run-take : (s : List ℕ) (n : ℕ) → n ≤ plainRun s → n ≤ plainRun (take n s)
+run-take s zero h = omega arith
+run-take [] (suc n) h = absurd (no-run n h)
+run-take (b ∷ s) (suc n) h = let t = head b s n h in one-more b (take n s) n (t .0) (run-take s n (t .1))
+
+-- a list that is all plain is a name: it has no zero, and its characters are whole
+pub plain-whole : (s : List ℕ) → length s ≤ plainRun s → (zeroAt s ≡ length s) × (wholeChars s ≡ length s)
+unfolding wholeChars
+plain-whole s h = (
+  omega (arith, zero-skip s (length s) h, zero-end s (length s) (omega arith)),
+  sym (reach-plain s (length s) h) ∙ reach-end s (length s) Lead (length s) (omega arith),
+)
+
+-- and so is what stands before a zero
+pub plain-text : (s : List ℕ) (n : ℕ) → n ≤ plainRun s → n < length s → getD s n 0 ≡ 0 → (zeroAt s ≡ n) × (wholeChars (textOf s) ≡ length (textOf s))
+plain-text s n h k e =
+    let z : zeroAt s ≡ n = omega (arith, zero-skip s n h, zero-here s n k e) in
+    (z, rw z (plain-whole (take n s) (omega (arith, run-take s n h, length-take-le n s (omega arith))) .1))

@@ -20,7 +20,7 @@ pub enum SourceName {
 fn zero_at(s: &[u8]) -> usize
     ensures { λ r. ⌜ r ≡ zeroAt (now (s .entry)) ⌝ }
 {
-    let mut i = plain::plain_run(s);
+    let mut i = 0;
     while i < s.len() {
         if s[i] == 0 {
             return i;
@@ -30,10 +30,16 @@ fn zero_at(s: &[u8]) -> usize
     i
 }
 
-// The name in a field: what follows its zero is not looked at.
+// The name in a field: what follows its zero is not looked at. A plain name needs one pass.
 pub fn parse_source_name_str(field: &[u8]) -> SourceName
     ensures { λ r. ⌜ r ≡ sourceNameOf (now (field .entry)) ⌝ }
 {
+    let plain = plain::plain_run(field);
+    if plain < field.len() {
+        if field[plain] == 0 {
+            return SourceName::Text { len: plain };
+        }
+    }
     let len = zero_at(field);
     if field.len() <= len {
         return SourceName::Refused(Refusal::new(refusal::NAME_NOT_TERMINATED, refusal::FRAMING, 0));
@@ -50,6 +56,9 @@ pub fn check_source_name(name: &[u8]) -> Checked
 {
     if E131_SOURCE_NAME_FIELD_LENGTH <= name.len() {
         return Checked::Refused(Refusal::new(refusal::NAME_TOO_LONG, refusal::NOWHERE, 0));
+    }
+    if name.len() <= plain::plain_run(name) {
+        return Checked::Passed;
     }
     if zero_at(name) < name.len() {
         return Checked::Refused(Refusal::new(refusal::NAME_HAS_ZERO, refusal::NOWHERE, 0));

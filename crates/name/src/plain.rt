@@ -14,13 +14,12 @@ const BLOCK: usize = 16;
 fn still_plain(plain: bool, b: u8) -> bool
     ensures { λ r. ⌜ (r ≡ true → (plain ≡ true) × (0x01 ≤ b) × (b ≤ 0x7f)) ⌝ }
 {
-    if b < FIRST {
-        return false;
+    if plain {
+        if FIRST <= b {
+            return b <= LAST;
+        }
     }
-    if LAST < b {
-        return false;
-    }
-    plain
+    false
 }
 
 // It looks at every byte of the block, so that it compiles to one wide comparison.

@@ -1,5 +1,4 @@
 // Well-formed UTF-8, a byte at a time: the first byte of a character decides what may follow.
-use crate::plain;
 ghost use mathlib.Core.Path.{_≡_};
 ghost use Rattle.name.specs.Utf8.{leadOf, trailed, step, marked, wholeChars};
 
@@ -76,8 +75,8 @@ pub fn whole_characters(s: &[u8]) -> usize
     ensures { λ r. ⌜ r ≡ wholeChars (now (s .entry)) ⌝ }
 {
     let mut expect = Expect::Lead;
-    let mut i = plain::plain_run(s);
-    let mut whole = i;
+    let mut whole = 0;
+    let mut i = 0;
     while i < s.len() {
         expect = next(expect, s[i]);
         i += 1;

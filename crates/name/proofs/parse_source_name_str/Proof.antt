@@ -8,17 +8,32 @@ use Rattle.refusal.proofs.Laws.{stop, pass}
 use Rattle.name.specs.Utf8.{wholeChars}
 use Rattle.name.specs.Name.{textOf, sourceNameOf}
 use Rattle.name.proofs.Laws.{text-length}
+use Rattle.name.proofs.Runs.{plain-text}
 use Rattle.name.proofs.parse_source_name_str.Statement.{statement}
 use Rattle.name.proofs.parse_source_name_str.Tie as tie
 
 -- what was tested is the text, and its length is the place of the zero
 text-is : (c : tie.After-whole-characters) →
-    let text = textOf (now (c .before .before .before .before .before .args .field)) in
+    let text = textOf (now (c .before .before .before .before .before .before .before .args .field)) in
     (c .whole-characters .result ≡ wholeChars text) × (c .before .before .before .zero-at .result ≡ length text)
 text-is c =
     let n = c .before .before .before .zero-at .result in
     let z : n - 0 ≡ n = omega arith in
-    (cc, cc (text-length (now (c .before .before .before .before .before .args .field))))
+    (cc, cc (text-length (now (c .before .before .before .before .before .before .before .args .field))))
+
+plain-run-requires : tie.Need-plain-run-requires
+plain-run-requires c κs = search needs
+
+shared-slice-read-if2 : tie.Need-shared-slice-read-if2
+shared-slice-read-if2 c = omega arith
+
+returns : tie.Need-returns
+unfolding sourceNameOf
+returns c =
+    let s = now (c .before .before .before .before .before .args .field) in
+    let run = c .before .before .before .plain-run in
+    let t = plain-text s (run .result) (run .ensures) (omega arith) (omega arith) in
+    pass _ _ _ (omega (arith, t .0, t .1)) (cc (t .0))
 
 zero-at-requires : tie.Need-zero-at-requires
 zero-at-requires c κs = search needs
@@ -26,9 +41,9 @@ zero-at-requires c κs = search needs
 new-requires : tie.Need-new-requires
 new-requires c κs = search needs
 
-returns : tie.Need-returns
+returns-2 : tie.Need-returns-2
 unfolding sourceNameOf
-returns c = stop 0 _ _ _ (omega arith) (cc)
+returns-2 c = stop 0 _ _ _ (omega arith) (cc)
 
 sub-whole-characters : tie.Need-sub-whole-characters
 sub-whole-characters c = search needs
@@ -45,25 +60,28 @@ whole-characters-requires c κs = search needs
 new-requires-2 : tie.Need-new-requires-2
 new-requires-2 c κs = search needs
 
-returns-2 : tie.Need-returns-2
-unfolding sourceNameOf
-returns-2 c = stop 1 _ _ _ (omega (arith, text-is (c .before .before))) (cc)
-
 returns-3 : tie.Need-returns-3
 unfolding sourceNameOf
-returns-3 c = pass _ _ _ (omega (arith, text-is (c .before))) (cc)
+returns-3 c = stop 1 _ _ _ (omega (arith, text-is (c .before .before))) (cc)
+
+returns-4 : tie.Need-returns-4
+unfolding sourceNameOf
+returns-4 c = pass _ _ _ (omega (arith, text-is (c .before))) (cc)
 
 pub parse-source-name-str-spec : {M : Type 1} → statement M
 parse-source-name-str-spec =
     tie.close
     (tie.spec
+    plain-run-requires
+    shared-slice-read-if2
+    returns
     zero-at-requires
     new-requires
-    returns
+    returns-2
     sub-whole-characters
     part-whole-characters-start
     part-whole-characters-end
     whole-characters-requires
     new-requires-2
-    returns-2
-    returns-3)
+    returns-3
+    returns-4)

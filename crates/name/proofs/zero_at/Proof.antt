@@ -1,12 +1,10 @@
 use Prim.Native.Nat.{_≤_, _+_, _-_}
 use mathlib.Core.Path.{_≡_}
 use native.Mathlib.Omega.{arith}
-use borrow.Author.Needs.{needs}
 use denote.Ref.{now}
 use lib.ListN.{length, drop}
 use Rattle.name.specs.Name.{zeroAt}
 use Rattle.name.proofs.Laws.{zero-here, zero-later, zero-end}
-use Rattle.name.proofs.Runs.{run-within, zero-skip}
 use Rattle.name.proofs.zero_at.Statement.{statement}
 use Rattle.name.proofs.zero_at.Tie as tie
 
@@ -16,14 +14,8 @@ Inv-loop s i₀ i = (i ≤ length s) × (i + zeroAt (drop i s) ≡ zeroAt s)
 abbrev μ-loop : tie.MeasureT-loop
 μ-loop s i₀ i = length s - i
 
-plain-run-requires : tie.Need-plain-run-requires Inv-loop μ-loop
-plain-run-requires c κs = search needs
-
 loop-holds : tie.Need-loop-holds Inv-loop μ-loop
-loop-holds c =
-    let s = now (c .before .before .args .s) in
-    let n = c .plain-run .result in
-    (run-within s n (c .plain-run .ensures), zero-skip s n (c .plain-run .ensures))
+loop-holds c = omega arith
 
 shared-slice-read-if1 : tie.Need-shared-slice-read-if1 Inv-loop μ-loop
 shared-slice-read-if1 c = omega arith
@@ -31,7 +23,7 @@ shared-slice-read-if1 c = omega arith
 returns : tie.Need-returns Inv-loop μ-loop
 returns c =
     let l = c .before .before .before in
-    omega (arith, zero-here (now (l .before .before .before .args .s)) (l .loop .i) (omega arith) (omega arith))
+    omega (arith, zero-here (now (l .before .args .s)) (l .loop .i) (omega arith) (omega arith))
 
 add-i : tie.Need-add-i Inv-loop μ-loop
 add-i c = omega arith
@@ -42,10 +34,10 @@ loop-less c = omega arith
 loop-again : tie.Need-loop-again Inv-loop μ-loop
 loop-again c =
     let l = c .before .before .before in
-    omega (arith, zero-later (now (l .before .before .before .args .s)) (l .loop .i) (omega arith) (omega arith))
+    omega (arith, zero-later (now (l .before .args .s)) (l .loop .i) (omega arith) (omega arith))
 
 returns-2 : tie.Need-returns-2 Inv-loop μ-loop
-returns-2 c = omega (arith, zero-end (now (c .before .before .before .before .args .s)) (c .before .loop .i) (omega arith))
+returns-2 c = omega (arith, zero-end (now (c .before .before .args .s)) (c .before .loop .i) (omega arith))
 
 pub zero-at-spec : {M : Type 1} → statement M
 zero-at-spec =
@@ -53,7 +45,6 @@ zero-at-spec =
     (tie.spec
     Inv-loop
     μ-loop
-    plain-run-requires
     loop-holds
     shared-slice-read-if1
     returns

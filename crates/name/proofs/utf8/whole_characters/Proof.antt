@@ -1,30 +1,23 @@
 use Prim.Native.Nat.{_≤_, _-_}
-use mathlib.Core.Path.{_≡_}
+use mathlib.Core.Path.{_≡_, refl}
 use native.Mathlib.Omega.{arith}
 use borrow.Author.Needs.{needs}
 use denote.Ref.{now}
 use lib.ListN.{length, drop}
 use Rattle.name.specs.Utf8.{reach, wholeChars}
 use Rattle.name.proofs.Laws.{reach-more, reach-end}
-use Rattle.name.proofs.Runs.{run-within, reach-plain}
 use Rattle.name.proofs.utf8.whole_characters.Statement.{statement}
 use Rattle.name.proofs.utf8.whole_characters.Tie as tie
 
 abbrev Inv-loop : tie.InvT-loop
-Inv-loop s expect₀ i₀ whole₀ expect i whole = (i ≤ length s) × (reach expect whole i (drop i s) ≡ wholeChars s)
+Inv-loop s expect₀ whole₀ i₀ expect whole i = (i ≤ length s) × (reach expect whole i (drop i s) ≡ wholeChars s)
 
 abbrev μ-loop : tie.MeasureT-loop
-μ-loop s expect₀ i₀ whole₀ expect i whole = length s - i
-
-plain-run-requires : tie.Need-plain-run-requires Inv-loop μ-loop
-plain-run-requires c κs = search needs
+μ-loop s expect₀ whole₀ i₀ expect whole i = length s - i
 
 loop-holds : tie.Need-loop-holds Inv-loop μ-loop
 unfolding wholeChars
-loop-holds c =
-    let s = now (c .before .before .args .s) in
-    let n = c .plain-run .result in
-    (run-within s n (c .plain-run .ensures), reach-plain s n (c .plain-run .ensures))
+loop-holds c = (omega arith, refl)
 
 shared-slice-read-next : tie.Need-shared-slice-read-next Inv-loop μ-loop
 shared-slice-read-next c = omega arith
@@ -44,12 +37,12 @@ loop-less c = omega arith
 loop-again : tie.Need-loop-again Inv-loop μ-loop
 loop-again c =
     let l = c .before .before .before .before in
-    (omega arith, cc (reach-more (now (l .before .before .before .args .s)) (l .loop .i) (l .loop .expect) (l .loop .whole) (omega arith)))
+    (omega arith, cc (reach-more (now (l .before .before .args .s)) (l .loop .i) (l .loop .expect) (l .loop .whole) (omega arith)))
 
 returns : tie.Need-returns Inv-loop μ-loop
 returns c =
     let l = c .before in
-    cc (reach-end (now (l .before .before .before .args .s)) (l .loop .i) (l .loop .expect) (l .loop .whole) (omega arith))
+    cc (reach-end (now (l .before .before .args .s)) (l .loop .i) (l .loop .expect) (l .loop .whole) (omega arith))
 
 pub whole-characters-spec : {M : Type 1} → statement M
 whole-characters-spec =
@@ -57,7 +50,6 @@ whole-characters-spec =
     (tie.spec
     Inv-loop
     μ-loop
-    plain-run-requires
     loop-holds
     shared-slice-read-next
     next-requires
