@@ -19,5 +19,6 @@ pub mod Discovery
 pub mod Edition2009
 pub mod Settled
 pub mod SettledText
+pub mod SettledEdge
 pub mod Exactly
 pub mod Definitions

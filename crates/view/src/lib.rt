@@ -5,8 +5,7 @@ use packet::plain::Kind;
 use packet::plain::Plain;
 ghost use mathlib.Core.Path.{_≡_};
 ghost use Rattle.packet.specs.Packet.{readingOf};
-ghost use Rattle.packet.specs.Parts.{shownAt, namePlace, valuesPlace};
-ghost use Rattle.packet.specs.Plain.{kindOf, plainOf};
+ghost use Rattle.view.specs.View.{shownName, shownValues, shownKind, shownPlain};
 
 pub struct Viewer<'a> {
     pub datagram: &'a [u8],
@@ -23,52 +22,52 @@ pub fn view<'a>(datagram: &'a [u8]) -> Viewer<'a>
 
 // The name, as the part of the datagram that it occupies; empty where there is none.
 pub fn name<'a>(viewer: Viewer<'a>) -> &'a [u8]
-    ensures { λ r. ⌜ now r ≡ shownAt (now (viewer .entry .datagram)) (namePlace (viewer .entry .reading .packet)) ⌝ }
+    ensures { λ r. ⌜ now r ≡ shownName (now (viewer .entry .datagram)) (viewer .entry .reading) ⌝ }
 {
     packet::name(viewer.datagram, viewer.reading)
 }
 
 // The values, likewise.
 pub fn values<'a>(viewer: Viewer<'a>) -> &'a [u8]
-    ensures { λ r. ⌜ now r ≡ shownAt (now (viewer .entry .datagram)) (valuesPlace (viewer .entry .reading .packet)) ⌝ }
+    ensures { λ r. ⌜ now r ≡ shownValues (now (viewer .entry .datagram)) (viewer .entry .reading) ⌝ }
 {
     packet::values(viewer.datagram, viewer.reading)
 }
 
 pub fn kind<'a>(viewer: Viewer<'a>) -> Kind
-    ensures { λ r. ⌜ r ≡ kindOf (viewer .entry .reading .packet) ⌝ }
+    ensures { λ r. ⌜ r ≡ shownKind (viewer .entry .reading) ⌝ }
 {
     packet::plain::kind_of(viewer.reading)
 }
 
 // The CID and the plain fields, or the refusal.
 pub fn plain<'a>(viewer: Viewer<'a>) -> Plain
-    ensures { λ r. ⌜ r ≡ plainOf (viewer .entry .reading) ⌝ }
+    ensures { λ r. ⌜ r ≡ shownPlain (viewer .entry .reading) ⌝ }
 {
     packet::plain::plain_of(viewer.reading)
 }
 
 // What a datagram's viewer shows. A caller of these holds no viewer, so its own proof needs no walk.
 pub fn viewed_name(datagram: &[u8]) -> &[u8]
-    ensures { λ r. ⌜ now r ≡ shownAt (now (datagram .entry)) (namePlace (readingOf (now (datagram .entry)) .packet)) ⌝ }
+    ensures { λ r. ⌜ now r ≡ shownName (now (datagram .entry)) (readingOf (now (datagram .entry))) ⌝ }
 {
     name(view(datagram))
 }
 
 pub fn viewed_values(datagram: &[u8]) -> &[u8]
-    ensures { λ r. ⌜ now r ≡ shownAt (now (datagram .entry)) (valuesPlace (readingOf (now (datagram .entry)) .packet)) ⌝ }
+    ensures { λ r. ⌜ now r ≡ shownValues (now (datagram .entry)) (readingOf (now (datagram .entry))) ⌝ }
 {
     values(view(datagram))
 }
 
 pub fn viewed_kind(datagram: &[u8]) -> Kind
-    ensures { λ r. ⌜ r ≡ kindOf (readingOf (now (datagram .entry)) .packet) ⌝ }
+    ensures { λ r. ⌜ r ≡ shownKind (readingOf (now (datagram .entry))) ⌝ }
 {
     kind(view(datagram))
 }
 
 pub fn viewed_plain(datagram: &[u8]) -> Plain
-    ensures { λ r. ⌜ r ≡ plainOf (readingOf (now (datagram .entry))) ⌝ }
+    ensures { λ r. ⌜ r ≡ shownPlain (readingOf (now (datagram .entry))) ⌝ }
 {
     plain(view(datagram))
 }

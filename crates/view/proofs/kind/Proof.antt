@@ -7,7 +7,8 @@ use Rattle.packet.proofs.plain.Kind as result
 use Rattle.packet.proofs.plain.Kind.Laws as result-laws
 use Rattle.packet.proofs.plain.kind_of.Symbol as callee
 use Rattle.packet.proofs.plain.kind_of.Met as callee-met
-use Rattle.view.proofs.Shows.{kindIn, kind-typed}
+use Rattle.view.specs.View.{shownKind}
+use Rattle.view.proofs.Shows.{kind-typed}
 use Rattle.view.proofs.Told.{OfReading, told-meets}
 use Rattle.view.proofs.kind as f
 use Rattle.view.proofs.kind.Key as key
@@ -20,5 +21,5 @@ kind-spec 𝓤 H 𝓜 𝓖 𝓡 =
     let W = givenOf 𝓤 H 𝓜 𝓖 in
     entered 𝓤 H (tripleOf 𝓤 H (𝓖 .A) f.signature (f.spec 𝓤 H (𝓖 .A) (𝓜 .mem) (𝓡 .run)))
     (tables 𝓤 H 𝓜 𝓡 code.env .C) (tables 𝓤 H 𝓜 𝓡 code.env .Λ) key.name code.function (code.unfolded 𝓤 H 𝓜 𝓡)
-    (told-meets result.the-row result-laws.mir kindIn (kind-typed 𝓤 H (𝓖 .A) W) 𝓤 H (𝓖 .A) W callee.name (tablesOf 𝓤 H 𝓜 (tables 𝓤 H 𝓜 𝓡 code.env))
-    (cited 𝓤 H (OfReading result.the-row result-laws.mir kindIn 𝓤 H (𝓖 .A)) 𝓜 𝓡 code.env callee.name callee.routine code.calls-packet·plain·kind-of (callee-met.met 𝓤 H 𝓜 𝓖 𝓡)))
+    (told-meets result.the-row result-laws.mir shownKind (kind-typed 𝓤 H (𝓖 .A) W) 𝓤 H (𝓖 .A) W callee.name (tablesOf 𝓤 H 𝓜 (tables 𝓤 H 𝓜 𝓡 code.env))
+    (cited 𝓤 H (OfReading result.the-row result-laws.mir shownKind 𝓤 H (𝓖 .A)) 𝓜 𝓡 code.env callee.name callee.routine code.calls-packet·plain·kind-of (callee-met.met 𝓤 H 𝓜 𝓖 𝓡)))

@@ -3,7 +3,7 @@
 use contract.Running.{givenOf, tables, tablesOf}
 use denote.Triple.Spec.{tripleOf}
 use denote.Triple.Table.{entered, cited}
-use Rattle.view.proofs.Shows.{valuesIn}
+use Rattle.view.specs.View.{shownValues}
 use Rattle.view.proofs.Through.{View, through-meets}
 use Rattle.view.proofs.Viewing.{part, part-typed, OfViewer}
 use Rattle.view.proofs.view.Symbol as view
@@ -21,6 +21,6 @@ viewed-values-spec 𝓤 H 𝓜 𝓖 𝓡 =
     let W = givenOf 𝓤 H 𝓜 𝓖 in
     entered 𝓤 H (tripleOf 𝓤 H (𝓖 .A) f.signature (f.spec 𝓤 H (𝓖 .A) (𝓜 .mem) (𝓡 .run)))
     (tables 𝓤 H 𝓜 𝓡 code.env .C) (tables 𝓤 H 𝓜 𝓡 code.env .Λ) key.name code.function (code.unfolded 𝓤 H 𝓜 𝓡)
-    (through-meets (part valuesIn) (part-typed 𝓤 H (𝓖 .A) W valuesIn) 𝓤 H (𝓖 .A) W view.name callee.name (tablesOf 𝓤 H 𝓜 (tables 𝓤 H 𝓜 𝓡 code.env))
+    (through-meets (part shownValues) (part-typed 𝓤 H (𝓖 .A) W shownValues) 𝓤 H (𝓖 .A) W view.name callee.name (tablesOf 𝓤 H 𝓜 (tables 𝓤 H 𝓜 𝓡 code.env))
     (cited 𝓤 H (View 𝓤 H (𝓖 .A)) 𝓜 𝓡 code.env view.name view.routine code.calls-view·view (view-met.met 𝓤 H 𝓜 𝓖 𝓡))
-    (cited 𝓤 H (OfViewer 𝓤 H (𝓖 .A) (part valuesIn)) 𝓜 𝓡 code.env callee.name callee.routine code.calls-view·values (callee-met.met 𝓤 H 𝓜 𝓖 𝓡)))
+    (cited 𝓤 H (OfViewer 𝓤 H (𝓖 .A) (part shownValues)) 𝓜 𝓡 code.env callee.name callee.routine code.calls-view·values (callee-met.met 𝓤 H 𝓜 𝓖 𝓡)))
