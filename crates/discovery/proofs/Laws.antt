@@ -12,7 +12,7 @@ use Rattle.wire.proofs.Laws.{u16-drop, drop-more, sets-append}
 use Rattle.refusal.specs.Check.{Check, check, refusal, universeList, _≤?_, reading, checkedOf}
 use Rattle.refusal.specs.declared.Checked.the-variants.{Passed, Refused}
 use Rattle.refusal.proofs.Laws.{All, Stops, refusalAt, all-hold, first-fails, reading-++}
-use Rattle.discovery.specs.Universes.{universes, pairs, pairsFrom, ascends, listChecks, universeBytes}
+use Rattle.discovery.specs.Universes.{universes, pairs, pairsFrom, ascends, listChecks, rises, orderChecks, checkedFrom, universeBytes}
 
 pub universes-length : (n : ℕ) (p : List ℕ) → length (universes n p) ≡ n
 unfolding universes
@@ -55,6 +55,13 @@ module _ (f : ℕ → ℕ → List Check) where
     pub pairs-end : length us ≤ i → checkedOf (pairsFrom f u (drop i us)) ≡ Passed
     unfolding checkedOf reading
     pairs-end h = rw (drop-of-length-le us h)
+
+-- The neighbours at writing from a place on: from the first on they are all; two that rise may be skipped.
+pub checked-all : (us : List ℕ) → (length us ≡ 0 → ⊥) → checkedFrom 0 us ≡ checkedOf (orderChecks us)
+checked-all us h = sym (rw (pairs-first rises us h))
+
+pub checked-next : (us : List ℕ) (k : ℕ) → k + 1 < length us → getD us k 0 < getD us (k + 1) 0 → checkedFrom k us ≡ checkedFrom (k + 1) us
+checked-next us k h r = pair-holds rises us (getD us k 0) (k + 1) h (omega arith)
 
 -- A list whose part holds it is refused by its order alone.
 pub listed : (p : List ℕ) (n : ℕ) → 2 * n ≤ length p → checkedOf (listChecks p n) ≡ checkedOf (pairs ascends (universes n p))

@@ -1,9 +1,10 @@
 -- A list of universes: its numbers, their order at reading and at writing, its bytes.
 use Prim.Native.Nat.{ℕ, zero, suc, _+_, _*_, _/_}
 use mathlib.Core.List.{List, [], _∷_, _++_}
-use lib.ListN.{length, drop}
+use lib.ListN.{length, drop, getD}
 use Rattle.wire.specs.Fields.{u16At, be16}
-use Rattle.refusal.specs.Check.{Check, check, refusal, universeList, nowhere, _≤?_, _≠?_}
+use Rattle.refusal.specs.Check.{Check, check, refusal, universeList, nowhere, _≤?_, _≠?_, checkedOf}
+use Rattle.refusal.specs.declared.Checked.{Checked}
 
 -- the first n numbers of two bytes
 unfoldable pub universes : ℕ → List ℕ → List ℕ
@@ -37,6 +38,10 @@ rises u v = check (u ≠? v) (refusal 25 nowhere 0) ∷ check (u ≤? v) (refusa
 
 abbrev pub orderChecks : List ℕ → List Check
 orderChecks us = pairs rises us
+
+-- what is answered for the neighbours from the place k on
+abbrev pub checkedFrom : ℕ → List ℕ → Checked
+checkedFrom k us = checkedOf (pairsFrom rises (getD us k 0) (drop (k + 1) us))
 
 unfoldable pub universeBytes : List ℕ → List ℕ
 universeBytes [] = []

@@ -13,7 +13,7 @@ ghost use lib.ListN.{length};
 ghost use lib.Seq.{sets};
 ghost use Rattle.wire.specs.Fields.{u16At};
 ghost use Rattle.refusal.specs.Check.{refusal, checkedOf, nowhere, discovery as discovery·place};
-ghost use Rattle.discovery.specs.Universes.{allUniverses, listChecks, orderChecks, universeBytes};
+ghost use Rattle.discovery.specs.Universes.{allUniverses, listChecks, orderChecks, checkedFrom, universeBytes};
 ghost use Rattle.discovery.specs.Layer.{discoveryOf, bodyOf, discoveryBytes};
 
 // Indexes of the fields, from the layer's first byte.
@@ -24,6 +24,9 @@ const E131_DISCOVERY_LAYER_LAST_PAGE_FIELD_INDEX: usize = 7;
 const E131_DISCOVERY_LAYER_UNIVERSE_LIST_FIELD_INDEX: usize = 8;
 
 const E131_UNIVERSE_FIELD_LENGTH: usize = 2;
+
+// So many neighbours are compared at a time.
+const BLOCK: usize = 16;
 
 #[repr(C)]
 pub struct DiscoveryFields {
@@ -168,6 +171,37 @@ fn all_rise(universes: &[u16]) -> bool
     rising
 }
 
+// The same of one block, from the place `at` on.
+fn block_rises(universes: &[u16], at: usize) -> bool
+    requires { ⌜ at + 16 < length (now universes) ⌝ }
+    ensures { λ r. ⌜ (r ≡ true → checkedFrom at (now (universes .entry)) ≡ checkedFrom (at + 16) (now (universes .entry))) ⌝ }
+{
+    let mut rising = true;
+    let mut i = 0;
+    while i < BLOCK {
+        rising = still_rising(rising, universes[at + i], universes[at + i + 1]);
+        i += 1;
+    }
+    rising
+}
+
+// Neighbours before this place rise, so that the first that do not are found without looking at each.
+fn rising_front(universes: &[u16]) -> usize
+    requires { ⌜ 0 < length (now universes) ⌝ }
+    ensures within { λ r. ⌜ r < length (now (universes .entry)) ⌝ }
+    ensures front { λ r. ⌜ checkedFrom 0 (now (universes .entry)) ≡ checkedFrom r (now (universes .entry)) ⌝ }
+{
+    let mut at = 0;
+    while BLOCK < universes.len() - at {
+        if block_rises(universes, at) {
+            at += BLOCK;
+        } else {
+            return at;
+        }
+    }
+    at
+}
+
 // Whether universes may be written: the first two neighbours that do not rise refuse.
 pub fn check_order(universes: &[u16]) -> Checked
     ensures { λ r. ⌜ r ≡ checkedOf (orderChecks (now (universes .entry))) ⌝ }
@@ -178,8 +212,9 @@ pub fn check_order(universes: &[u16]) -> Checked
     if all_rise(universes) {
         return Checked::Passed;
     }
-    let mut last = universes[0];
-    let mut i = 1;
+    let front = rising_front(universes);
+    let mut last = universes[front];
+    let mut i = front + 1;
     while i < universes.len() {
         let u = universes[i];
         if last == u {

@@ -1,14 +1,15 @@
 -- Laws that the loops and the answers go by. Assumes nothing.
-use Prim.Native.Nat.{ℕ, suc, _+_, _-_, _≤_, _<_}
+use Prim.Native.Nat.{ℕ, zero, suc, _+_, _-_, _≤_, _<_}
 use mathlib.Core.Path.{_≡_, refl, sym, ap, _∙_}
-use mathlib.Core.List.{List, [], _∷_, _++_}
+use mathlib.Core.List.{List, [], _∷_, _++_, append-nil}
+use native.Mathlib.Nat.{sub-zero}
 use native.Mathlib.Omega.{arith}
 use lib.ListN.{length, take, drop, getD, replicate, drop-of-length-le, length-append, length-replicate}
-use lib.Seq.{length-take-le, take-append-le, take-append-add}
-use Rattle.refusal.specs.Check.{_=?_}
+use lib.Seq.{sets, length-take-le, take-append-le, take-append-add}
+use Rattle.refusal.specs.Check.{_=?_, _≤?_}
 use Rattle.refusal.proofs.Tests.{chosen, passed-over, choice, decide}
 use Rattle.refusal.proofs.Laws.{found}
-use Rattle.wire.proofs.Laws.{drop-more, take-zeros}
+use Rattle.wire.proofs.Laws.{drop-more, take-zeros, sets-take, sets-front}
 use Rattle.name.specs.Utf8.{leadOf, step, marked, reach}
 use Rattle.name.specs.Name.{zeroAt, textOf, sourceNameChecks, sourceNameOf, nameBytes}
 use Rattle.name.specs.declared.utf8.Expect.{Expect}
@@ -81,6 +82,22 @@ bytes-filled name h =
     ap (λ (n : ℕ). take n (name ++ replicate 64 0)) e
     ∙ take-append-add name (replicate 64 0) (64 - length name)
     ∙ ap (λ (zs : List ℕ). name ++ zs) (take-zeros (64 - length name) 64 (omega arith))
+
+zeros-left : (n m : ℕ) → n ≤ m → drop n (replicate {A = ℕ} m 0) ≡ replicate (m - n) 0
+zeros-left zero m h = rw sub-zero
+zeros-left (suc n) zero h = absurd (omega arith)
+zeros-left (suc n) (suc m) h =
+    let e : m - n ≡ suc m - suc n = omega arith in
+    zeros-left n m (omega arith) ∙ ap (λ (k : ℕ). replicate k 0) e
+
+-- a name copied over a field of zeros
+pub bytes-field : (name : List ℕ) → sets (replicate 64 0) 0 name ≡ nameBytes name
+bytes-field name =
+    decide (length name ≤? 64)
+    (λ h. sets-front name (replicate 64 0) (length name) refl h ∙ ap (λ (zs : List ℕ). name ++ zs) (zeros-left (length name) 64 h) ∙ sym (bytes-filled name h))
+    (λ f. let k : 64 ≤ length name = omega arith in
+    sym (sets-take name (replicate 64 0) 0 64 (omega arith)) ∙ sets-front (take 64 name) (replicate 64 0) 64 (length-take-le 64 name k) (omega arith)
+    ∙ append-nil (take 64 name) ∙ sym (bytes-cut name k))
 
 pub bytes-64 : (name : List ℕ) → length (nameBytes name) ≡ 64
 unfolding nameBytes

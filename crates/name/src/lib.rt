@@ -73,17 +73,7 @@ pub fn check_source_name(name: &[u8]) -> Checked
 pub fn pack_source_name(buf: &mut [u8], at: usize, name: &[u8])
     ensures { λ _. ⌜ now (buf .exit) ≡ sets (now (buf .entry)) at (nameBytes (now (name .entry))) ⌝ }
 {
-    if buf.len() < at {
-        return;
-    }
-    if name.len() >= E131_SOURCE_NAME_FIELD_LENGTH {
-        wire::copy(buf, at, &name[0..E131_SOURCE_NAME_FIELD_LENGTH]);
-        return;
-    }
-    wire::copy(buf, at, name);
-    wire::zeros(
-        buf,
-        at + name.len(),
-        E131_SOURCE_NAME_FIELD_LENGTH - name.len(),
-    );
+    let mut field = [0; E131_SOURCE_NAME_FIELD_LENGTH];
+    wire::copy(&mut field, 0, name);
+    wire::copy(buf, at, &field);
 }
