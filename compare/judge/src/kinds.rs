@@ -9,7 +9,10 @@ static KINDS: OnceLock<HashMap<u8, String>> = OnceLock::new();
 
 /// The kind that the definition gives a number; empty where it gives none.
 pub fn of(number: u8) -> &'static str {
-    KINDS.get_or_init(read).get(&number).map_or("", String::as_str)
+    KINDS
+        .get_or_init(read)
+        .get(&number)
+        .map_or("", String::as_str)
 }
 
 /// An error's kind: its variant's name.
