@@ -11,8 +11,8 @@ use Rattle.discovery.specs.declared.DiscoveryFields.{DiscoveryFields}
 use Rattle.framing.specs.declared.data.DataFields.{DataFields}
 use Rattle.extended.specs.declared.synchronization.SynchronizationFields.{SynchronizationFields}
 use Rattle.packet.specs.Packet.{packetOf, readingOf}
-use Rattle.packet.specs.Parts.{shownAt, namePlace, valuesPlace, copiedOf, universesIn, afterCopy}
-use Rattle.packet.specs.Plain.{kindOf, plainOf}
+use Rattle.parts.specs.Parts.{shownAt, namePlace, valuesPlace, copiedOf, universesIn, afterCopy}
+use Rattle.parts.specs.Plain.{kindOf, plainOf}
 use Rattle.packet.specs.declared.Reading.{Reading}
 use Rattle.pack.specs.Writing.{dataBytes, synchronizationBytes, discoveryBytes, afterPack}
 use Rattle.edition2009.specs.Packet.{reading2009Of}
@@ -29,7 +29,7 @@ SettledBoth {A} answer after = (r s : A) (b c : List ℕ) → (r ≡ answer) × 
 both : {A : Type 0} (answer : A) (after : List ℕ) → SettledBoth answer after
 both answer after r s b c e f = (e .0 ∙ sym (f .0), e .1 ∙ sym (f .1))
 
--- packet: plain
+-- parts: plain
 module _ (x : Reading) where
   pub kind-of : Settled (kindOf (x .packet))
   kind-of r s e f = e ∙ sym f

@@ -20,8 +20,8 @@ use Rattle.packet.specs.declared.DiscoveryRecord.{DiscoveryRecord}
 use Rattle.packet.specs.declared.Packet.{Packet}
 use Rattle.packet.specs.declared.Packet.the-variants as packet
 use Rattle.packet.specs.declared.Reading.{Reading}
-use Rattle.packet.specs.declared.Copied.{Copied}
-use Rattle.packet.specs.declared.Copied.the-variants as copied
+use Rattle.parts.specs.declared.Copied.{Copied}
+use Rattle.parts.specs.declared.Copied.the-variants as copied
 use Rattle.pack.specs.declared.Packed.{Packed}
 use Rattle.pack.specs.declared.Packed.the-variants as packed
 use Rattle.edition2009.specs.declared.DataFields2009.{DataFields2009}

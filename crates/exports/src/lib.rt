@@ -8,13 +8,13 @@ use edition2009::Reading2009;
 use extended::synchronization::SynchronizationFields;
 use framing::data::DataFields;
 use pack::Packed;
-use packet::Copied;
 use packet::DataRecord;
 use packet::DiscoveryRecord;
 use packet::Packet;
 use packet::Place;
 use packet::Reading;
 use packet::SynchronizationRecord;
+use parts::Copied;
 use refusal::Checked;
 use refusal::Refusal;
 use universe::Ipv4Address;
@@ -24,7 +24,7 @@ ghost use lib.ListN.{length};
 ghost use Rattle.refusal.specs.Check.{checkedOf};
 ghost use Rattle.universe.specs.Universe.{universeChecks, multicastOf};
 ghost use Rattle.packet.specs.Packet.{packetOf, readingOf};
-ghost use Rattle.packet.specs.Parts.{copiedOf, universesIn, afterCopy};
+ghost use Rattle.parts.specs.Parts.{copiedOf, universesIn, afterCopy};
 ghost use Rattle.pack.specs.Writing.{dataBytes, synchronizationBytes, discoveryBytes, afterPack};
 ghost use Rattle.edition2009.specs.Packet.{reading2009Of};
 ghost use Rattle.exports.specs.Flat.{noRefusal, noPlace, noData, noSynchronization, noDiscovery, refusedFound, dataFound, synchronizationFound, discoveryFound, foundOf, refused2009, data2009, found2009Of, packedOutcome, copiedOutcome, refusalOf, addressOf};
@@ -342,7 +342,7 @@ pub extern "C" fn ledgerwren_copy_universes(datagram: &[u8], out: &mut [u16]) ->
     ensures answer { λ r. ⌜ r ≡ copiedOutcome (copiedOf (packetOf (now (datagram .entry))) (length (now (out .entry)))) ⌝ }
     ensures filled { λ _. ⌜ now (out .exit) ≡ afterCopy (copiedOf (packetOf (now (datagram .entry))) (length (now (out .entry)))) (universesIn (now (datagram .entry))) (now (out .entry)) ⌝ }
 {
-    copied_outcome(packet::copy_universes(datagram, out))
+    copied_outcome(parts::copy_universes(datagram, out))
 }
 
 // The writers: the packet in front of `buf` and the rest as found, or all as found at a refusal.

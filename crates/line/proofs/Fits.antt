@@ -13,7 +13,7 @@ use Rattle.discovery.specs.declared.DiscoveryFields.{DiscoveryFields}
 use Rattle.packet.specs.declared.Packet.{Packet}
 use Rattle.packet.specs.declared.Packet.the-variants.{Data, Synchronization, Discovery, Refused}
 use Rattle.packet.specs.declared.Reading.{Reading}
-use Rattle.packet.specs.Parts.{shownAt, namePlace}
+use Rattle.parts.specs.Parts.{shownAt, namePlace}
 use Rattle.text.specs.Digits.{decimal}
 use Rattle.text.proofs.Decimals.{decimal-length}
 use Rattle.text.proofs.Hex.{hex-length}

@@ -13,7 +13,7 @@ use Rattle.packet.specs.declared.DiscoveryRecord.{DiscoveryRecord}
 use Rattle.packet.specs.declared.Packet.{Packet}
 use Rattle.packet.specs.declared.Packet.the-variants.{Data, Synchronization, Discovery, Refused}
 use Rattle.packet.specs.declared.Reading.{Reading}
-use Rattle.packet.specs.Parts.{shownAt, namePlace}
+use Rattle.parts.specs.Parts.{shownAt, namePlace}
 use Rattle.text.specs.Digits.{ascii, decimal, hex}
 use Rattle.line.specs.declared.Ending.{Ending}
 use Rattle.line.specs.declared.Ending.the-variants.{End, Cut, Bad}

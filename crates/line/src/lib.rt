@@ -128,9 +128,9 @@ pub fn put_line(out: &mut [u8], at: usize, n: u64, datagram: &[u8], reading: Rea
 {
     let packet = reading.packet;
     match packet {
-        Packet::Data(x) => put_data(out, at, n, packet::name(datagram, reading), x),
+        Packet::Data(x) => put_data(out, at, n, parts::name(datagram, reading), x),
         Packet::Synchronization(x) => put_synchronization(out, at, n, x),
-        Packet::Discovery(x) => put_discovery(out, at, n, packet::name(datagram, reading), x),
+        Packet::Discovery(x) => put_discovery(out, at, n, parts::name(datagram, reading), x),
         Packet::Refused(r) => put_refused(out, at, n, r),
     }
 }

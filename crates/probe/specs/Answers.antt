@@ -5,7 +5,7 @@ use Rattle.wire.specs.Fields.{join}
 use Rattle.packet.specs.declared.DataRecord.{DataRecord}
 use Rattle.packet.specs.declared.SynchronizationRecord.{SynchronizationRecord}
 use Rattle.packet.specs.declared.Reading.{Reading}
-use Rattle.packet.specs.Parts.{shownAt, namePlace, valuesPlace}
+use Rattle.parts.specs.Parts.{shownAt, namePlace, valuesPlace}
 use Rattle.universe.specs.declared.Ipv4Address.{Ipv4Address}
 use Rattle.universe.specs.declared.Multicast.{Multicast}
 use Rattle.universe.specs.declared.Multicast.the-variants.{Address, Refused}

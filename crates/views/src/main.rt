@@ -3,8 +3,8 @@
 use discovery::DiscoveryFields;
 use extended::synchronization::SynchronizationFields;
 use framing::data::DataFields;
-use packet::plain::Fields;
-use packet::plain::Kind;
+use parts::plain::Fields;
+use parts::plain::Kind;
 
 const STANDARD_OUTPUT: i32 = 1;
 

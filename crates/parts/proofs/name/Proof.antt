@@ -1,6 +1,6 @@
 use borrow.Author.Needs.{needs}
-use Rattle.packet.proofs.name.Statement.{statement}
-use Rattle.packet.proofs.name.Tie as tie
+use Rattle.parts.proofs.name.Statement.{statement}
+use Rattle.parts.proofs.name.Tie as tie
 
 name-place-requires : tie.Need-name-place-requires
 name-place-requires c κs = search needs

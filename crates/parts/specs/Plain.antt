@@ -1,12 +1,12 @@
 -- The kind of a reading, and a record without its places.
 use Rattle.packet.specs.declared.Packet.{Packet}
 use Rattle.packet.specs.declared.Packet.the-variants.{Data, Synchronization, Discovery, Refused}
 use Rattle.packet.specs.declared.Reading.{Reading}
-use Rattle.packet.specs.declared.plain.Kind.{Kind}
-use Rattle.packet.specs.declared.plain.Kind.the-variants as kind
-use Rattle.packet.specs.declared.plain.Fields.{Fields}
-use Rattle.packet.specs.declared.plain.Fields.the-variants as fields
-use Rattle.packet.specs.declared.plain.Plain.{Plain}
+use Rattle.parts.specs.declared.plain.Kind.{Kind}
+use Rattle.parts.specs.declared.plain.Kind.the-variants as kind
+use Rattle.parts.specs.declared.plain.Fields.{Fields}
+use Rattle.parts.specs.declared.plain.Fields.the-variants as fields
+use Rattle.parts.specs.declared.plain.Plain.{Plain}
 
 abbrev pub kindOf : Packet → Kind
 kindOf (Data x) = kind.Data

@@ -1,6 +1,6 @@
 use borrow.Author.Needs.{needs}
-use Rattle.packet.proofs.plain.plain_of.Statement.{statement}
-use Rattle.packet.proofs.plain.plain_of.Tie as tie
+use Rattle.parts.proofs.plain.plain_of.Statement.{statement}
+use Rattle.parts.proofs.plain.plain_of.Tie as tie
 
 fields-of-requires : tie.Need-fields-of-requires
 fields-of-requires c κs = search needs

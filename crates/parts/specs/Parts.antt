@@ -5,12 +5,12 @@ use lib.Seq.{sets}
 use Rattle.wire.specs.Fields.{partOf}
 use Rattle.refusal.specs.Check.{check, refusal, nowhere, _≤?_, reading}
 use Rattle.discovery.specs.Universes.{allUniverses}
 use Rattle.packet.specs.Packet.{place, packetOf}
 use Rattle.packet.specs.declared.Place.{Place}
 use Rattle.packet.specs.declared.Packet.{Packet}
 use Rattle.packet.specs.declared.Packet.the-variants.{Data, Synchronization, Discovery, Refused}
-use Rattle.packet.specs.declared.Copied.{Copied}
-use Rattle.packet.specs.declared.Copied.the-variants as copied
+use Rattle.parts.specs.declared.Copied.{Copied}
+use Rattle.parts.specs.declared.Copied.the-variants as copied
 
 -- a part is empty where its place runs past the datagram
 abbrev pub shownAt : List ℕ → Place → List ℕ

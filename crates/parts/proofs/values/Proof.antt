@@ -1,6 +1,6 @@
 use borrow.Author.Needs.{needs}
-use Rattle.packet.proofs.values.Statement.{statement}
-use Rattle.packet.proofs.values.Tie as tie
+use Rattle.parts.proofs.values.Statement.{statement}
+use Rattle.parts.proofs.values.Tie as tie
 
 values-place-requires : tie.Need-values-place-requires
 values-place-requires c κs = search needs

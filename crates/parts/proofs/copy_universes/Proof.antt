@@ -1,10 +1,10 @@
 use mathlib.Core.Path.{_≡_, refl}
 use borrow.Author.Needs.{needs}
 use denote.Ref.{now}
 use Rattle.packet.specs.Packet.{packetOf}
 use Rattle.packet.specs.declared.Packet.the-variants.{Data, Synchronization, Discovery, Refused}
-use Rattle.packet.proofs.copy_universes.Statement.{statement}
-use Rattle.packet.proofs.copy_universes.Tie as tie
+use Rattle.parts.proofs.copy_universes.Statement.{statement}
+use Rattle.parts.proofs.copy_universes.Tie as tie
 
 parse-packet-requires : tie.Need-parse-packet-requires
 parse-packet-requires c κs = search needs

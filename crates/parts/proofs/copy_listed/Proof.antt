@@ -2,8 +2,8 @@ use mathlib.Core.Path.{refl}
 use native.Mathlib.Omega.{arith}
 use borrow.Author.Needs.{needs}
 use Rattle.refusal.proofs.Laws.{stop, pass}
-use Rattle.packet.proofs.copy_listed.Statement.{statement}
-use Rattle.packet.proofs.copy_listed.Tie as tie
+use Rattle.parts.proofs.copy_listed.Statement.{statement}
+use Rattle.parts.proofs.copy_listed.Tie as tie
 
 refuse-copy-requires : tie.Need-refuse-copy-requires
 refuse-copy-requires c κs = search needs

@@ -1,12 +1,12 @@
 // What a reading says beside its parts: of what kind the packet is, and its plain fields.
-use crate::Packet;
-use crate::Reading;
 use discovery::DiscoveryFields;
 use extended::synchronization::SynchronizationFields;
 use framing::data::DataFields;
+use packet::Packet;
+use packet::Reading;
 use refusal::Refusal;
 ghost use mathlib.Core.Path.{_≡_};
-ghost use Rattle.packet.specs.Plain.{kindOf, fieldsOf, plainOf};
+ghost use Rattle.parts.specs.Plain.{kindOf, fieldsOf, plainOf};
 
 pub enum Kind {
     Data,

@@ -1,6 +1,6 @@
 use borrow.Author.Needs.{needs}
-use Rattle.packet.proofs.plain.fields_of.Statement.{statement}
-use Rattle.packet.proofs.plain.fields_of.Tie as tie
+use Rattle.parts.proofs.plain.fields_of.Statement.{statement}
+use Rattle.parts.proofs.plain.fields_of.Tie as tie
 
 enum-known-packet : tie.Need-enum-known-packet
 enum-known-packet c = search needs
