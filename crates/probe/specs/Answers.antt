@@ -10,7 +10,8 @@ use Rattle.universe.specs.declared.Ipv4Address.{Ipv4Address}
 use Rattle.universe.specs.declared.Multicast.{Multicast}
 use Rattle.universe.specs.declared.Multicast.the-variants.{Address, Refused}
 use Rattle.text.specs.Digits.{ascii, decimal, hex}
-use Rattle.line.specs.Lines.{dataFieldsText, synchronizationText, refusedLine}
+use Rattle.fields.specs.Texts.{dataFieldsText, synchronizationText}
+use Rattle.line.specs.Lines.{refusedLine}
 
 -- `N data cid C name H prio P sync A seq S flags F univ U values V`
 unfoldable pub dataAnswer : ℕ → List ℕ → Reading → DataRecord → List ℕ

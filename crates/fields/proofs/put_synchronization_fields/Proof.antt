@@ -1,9 +1,9 @@
 use mathlib.Core.List.{append-assoc, append-nil}
 use borrow.Author.Needs.{needs}
 use Rattle.text.proofs.Puts.{put-then, put-as}
-use Rattle.line.specs.Lines.{synchronizationText}
-use Rattle.line.proofs.put_synchronization_fields.Statement.{statement}
-use Rattle.line.proofs.put_synchronization_fields.Tie as tie
+use Rattle.fields.specs.Texts.{synchronizationText}
+use Rattle.fields.proofs.put_synchronization_fields.Statement.{statement}
+use Rattle.fields.proofs.put_synchronization_fields.Tie as tie
 
 slice-aggregate-put-field : tie.Need-slice-aggregate-put-field
 slice-aggregate-put-field c = search needs

@@ -1,9 +1,9 @@
 use mathlib.Core.List.{append-assoc, append-nil}
 use borrow.Author.Needs.{needs}
 use Rattle.text.proofs.Puts.{put-then, put-as}
-use Rattle.line.specs.Lines.{pageText}
-use Rattle.line.proofs.put_page.Statement.{statement}
-use Rattle.line.proofs.put_page.Tie as tie
+use Rattle.fields.specs.Texts.{pageText}
+use Rattle.fields.proofs.put_page.Statement.{statement}
+use Rattle.fields.proofs.put_page.Tie as tie
 
 slice-aggregate-put-field : tie.Need-slice-aggregate-put-field
 slice-aggregate-put-field c = search needs

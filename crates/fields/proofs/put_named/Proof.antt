@@ -1,7 +1,7 @@
 use borrow.Author.Needs.{needs}
 use Rattle.text.proofs.Puts.{put-then}
-use Rattle.line.proofs.put_named.Statement.{statement}
-use Rattle.line.proofs.put_named.Tie as tie
+use Rattle.fields.proofs.put_named.Statement.{statement}
+use Rattle.fields.proofs.put_named.Tie as tie
 
 put-decimal-requires : tie.Need-put-decimal-requires
 put-decimal-requires c κs = search needs

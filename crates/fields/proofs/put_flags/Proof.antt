@@ -1,7 +1,7 @@
 use borrow.Author.Needs.{needs}
 use Rattle.text.proofs.Puts.{put-then, put-as}
-use Rattle.line.proofs.put_flags.Statement.{statement}
-use Rattle.line.proofs.put_flags.Tie as tie
+use Rattle.fields.proofs.put_flags.Statement.{statement}
+use Rattle.fields.proofs.put_flags.Tie as tie
 
 flag-digit-requires : tie.Need-flag-digit-requires
 flag-digit-requires c κs = search needs
