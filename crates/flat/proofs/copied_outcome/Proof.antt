@@ -1,6 +1,6 @@
 use borrow.Author.Needs.{needs}
-use Rattle.exports.proofs.copied_outcome.Statement.{statement}
-use Rattle.exports.proofs.copied_outcome.Tie as tie
+use Rattle.flat.proofs.copied_outcome.Statement.{statement}
+use Rattle.flat.proofs.copied_outcome.Tie as tie
 
 enum-known-copied : tie.Need-enum-known-copied
 enum-known-copied c = search needs

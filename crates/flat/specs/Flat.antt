@@ -29,10 +29,10 @@ use Rattle.edition2009.specs.declared.DataRecord2009.{DataRecord2009}
 use Rattle.edition2009.specs.declared.Packet2009.{Packet2009}
 use Rattle.edition2009.specs.declared.Packet2009.the-variants as packet2009
 use Rattle.edition2009.specs.declared.Reading2009.{Reading2009}
-use Rattle.exports.specs.declared.Found.{Found}
-use Rattle.exports.specs.declared.Found2009.{Found2009}
-use Rattle.exports.specs.declared.Outcome.{Outcome}
-use Rattle.exports.specs.declared.Address.{Address}
+use Rattle.flat.specs.declared.Found.{Found}
+use Rattle.flat.specs.declared.Found2009.{Found2009}
+use Rattle.flat.specs.declared.Outcome.{Outcome}
+use Rattle.flat.specs.declared.Address.{Address}
 
 -- zeros
 abbrev pub noRefusal : Refusal

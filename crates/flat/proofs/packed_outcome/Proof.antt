@@ -1,6 +1,6 @@
 use borrow.Author.Needs.{needs}
-use Rattle.exports.proofs.packed_outcome.Statement.{statement}
-use Rattle.exports.proofs.packed_outcome.Tie as tie
+use Rattle.flat.proofs.packed_outcome.Statement.{statement}
+use Rattle.flat.proofs.packed_outcome.Tie as tie
 
 enum-known-packed : tie.Need-enum-known-packed
 enum-known-packed c = search needs

@@ -1,9 +1,9 @@
 use borrow.Author.Needs.{needs}
 use Rattle.refusal.proofs.Laws.{by-answer}
 use Rattle.packet.specs.declared.Packet.the-variants.{Data, Synchronization, Discovery, Refused}
-use Rattle.exports.specs.Flat.{foundIn}
-use Rattle.exports.proofs.flatten.Statement.{statement}
-use Rattle.exports.proofs.flatten.Tie as tie
+use Rattle.flat.specs.Flat.{foundIn}
+use Rattle.flat.proofs.flatten.Statement.{statement}
+use Rattle.flat.proofs.flatten.Tie as tie
 
 enum-known-packet : tie.Need-enum-known-packet
 enum-known-packet c = search needs

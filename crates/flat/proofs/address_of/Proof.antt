@@ -2,9 +2,9 @@ use borrow.Author.Needs.{needs}
 use mathlib.Core.Path.{refl}
 use Rattle.refusal.proofs.Laws.{by-answer}
 use Rattle.universe.specs.declared.Multicast.the-variants.{Refused}
-use Rattle.exports.specs.Flat.{addressOf}
-use Rattle.exports.proofs.address_of.Statement.{statement}
-use Rattle.exports.proofs.address_of.Tie as tie
+use Rattle.flat.specs.Flat.{addressOf}
+use Rattle.flat.proofs.address_of.Statement.{statement}
+use Rattle.flat.proofs.address_of.Tie as tie
 
 enum-known-multicast : tie.Need-enum-known-multicast
 enum-known-multicast c = search needs

@@ -1,6 +1,6 @@
 use borrow.Author.Needs.{needs}
-use Rattle.exports.proofs.refused_2009.Statement.{statement}
-use Rattle.exports.proofs.refused_2009.Tie as tie
+use Rattle.flat.proofs.refused_2009.Statement.{statement}
+use Rattle.flat.proofs.refused_2009.Tie as tie
 
 no-place-requires : tie.Need-no-place-requires
 no-place-requires c κs = search needs

@@ -1,9 +1,9 @@
 use borrow.Author.Needs.{needs}
 use Rattle.refusal.proofs.Laws.{by-answer}
 use Rattle.edition2009.specs.declared.Packet2009.the-variants.{Data, Refused}
-use Rattle.exports.specs.Flat.{found2009In}
-use Rattle.exports.proofs.flatten_2009.Statement.{statement}
-use Rattle.exports.proofs.flatten_2009.Tie as tie
+use Rattle.flat.specs.Flat.{found2009In}
+use Rattle.flat.proofs.flatten_2009.Statement.{statement}
+use Rattle.flat.proofs.flatten_2009.Tie as tie
 
 enum-known-packet : tie.Need-enum-known-packet
 enum-known-packet c = search needs

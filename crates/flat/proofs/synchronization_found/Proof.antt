@@ -1,6 +1,6 @@
 use borrow.Author.Needs.{needs}
-use Rattle.exports.proofs.synchronization_found.Statement.{statement}
-use Rattle.exports.proofs.synchronization_found.Tie as tie
+use Rattle.flat.proofs.synchronization_found.Statement.{statement}
+use Rattle.flat.proofs.synchronization_found.Tie as tie
 
 no-refusal-requires : tie.Need-no-refusal-requires
 no-refusal-requires c κs = search needs

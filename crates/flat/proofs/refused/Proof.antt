@@ -1,6 +1,6 @@
 use borrow.Author.Needs.{needs}
-use Rattle.exports.proofs.refused.Statement.{statement}
-use Rattle.exports.proofs.refused.Tie as tie
+use Rattle.flat.proofs.refused.Statement.{statement}
+use Rattle.flat.proofs.refused.Tie as tie
 
 no-data-requires : tie.Need-no-data-requires
 no-data-requires c κs = search needs
