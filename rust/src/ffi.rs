@@ -3,8 +3,9 @@
 //!
 //! Taken on trust here, and nowhere else:
 //!
-//! - The declarations are those of `crates/exports/src/lib.rt`. Nothing in a linker checks that; the
-//!   test `header` compares both files, and the other tests see a different value in every field.
+//! - The declarations are those of `crates/exports/src/lib.rt` and of the structs that it names, most
+//!   in `crates/flat/src/lib.rt`. Nothing in a linker checks that; the test `header` compares them,
+//!   and the other tests see a different value in every field.
 //! - A call reads and writes within the lengths it is given, keeps no pointer, and returns. That is
 //!   proved, for every input, of the code behind it.
 //! - The name that the reader finds is well-formed UTF-8. That is proved, too, by Unicode's table; a

@@ -16,7 +16,7 @@ use Rattle.dmp.specs.Layer.{dmpBytes}
 use Rattle.framing.specs.Bytes.{framingHead, optionsOf, dataFramingBytes}
 use Rattle.framing.specs.declared.data.DataFields.{DataFields}
 use Rattle.packet.specs.Packet.{place, cidOf, packetOf, readingOf, withCid}
-use Rattle.packet.specs.Parts.{shownAt}
+use Rattle.parts.specs.Parts.{shownAt}
 use Rattle.packet.specs.declared.Packet.{Packet}
 use Rattle.packet.specs.declared.Packet.the-variants.{Data}
 use Rattle.packet.specs.declared.Reading.{Reading}

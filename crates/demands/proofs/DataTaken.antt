@@ -21,7 +21,7 @@ use Rattle.extended.specs.Extended.{extendedChecks}
 use Rattle.root.specs.Root.{preambleChecks, rootChecks, rootPart}
 use Rattle.root.proofs.Laws.{within}
 use Rattle.packet.specs.Packet.{place, rootVector, framingPart, framingChecks, packetChecks, recordOf, dataRecord, extendedRecord, synchronizationRecord, discoveryRecord, cidOf, packetOf, withCid, readingOf}
-use Rattle.packet.specs.Parts.{shownAt}
+use Rattle.parts.specs.Parts.{shownAt}
 use Rattle.packet.specs.declared.DataRecord.{DataRecord}
 use Rattle.packet.specs.declared.Packet.{Packet}
 use Rattle.packet.specs.declared.Packet.the-variants.{Data, Synchronization, Discovery, Refused}

@@ -12,9 +12,9 @@ use Rattle.name.specs.Name.{writtenNameChecks, nameBytes}
 use Rattle.discovery.specs.declared.DiscoveryFields.{DiscoveryFields}
 use Rattle.discovery.specs.Universes.{orderChecks}
 use Rattle.packet.specs.Packet.{place, packetOf, readingOf}
-use Rattle.packet.specs.Parts.{listedAt, universesPlace, universesIn, copiedOf, afterCopy}
+use Rattle.parts.specs.Parts.{listedAt, universesPlace, universesIn, copiedOf, afterCopy}
 use Rattle.packet.specs.declared.Packet.{Packet}
-use Rattle.packet.specs.declared.Copied.the-variants as copied
+use Rattle.parts.specs.declared.Copied.the-variants as copied
 use Rattle.pack.specs.Writing.{discoveryBytes, discoveryLength, discoveryWriteChecks, countCheck, packedOf, afterPack}
 use Rattle.pack.specs.declared.Packed.the-variants.{Length, Refused}
 use Rattle.demands.specs.Content.{discoveryContent, meaning}

@@ -23,7 +23,7 @@ use Rattle.extended.specs.Extended.{extendedChecks}
 use Rattle.root.specs.Root.{rootPart}
 use Rattle.root.proofs.Laws.{within}
 use Rattle.packet.specs.Packet.{place, rootVector, framingPart, discoveryRecord, extendedRecord, packetOf, cidOf}
-use Rattle.packet.specs.Parts.{shownAt, listedAt}
+use Rattle.parts.specs.Parts.{shownAt, listedAt}
 use Rattle.packet.specs.declared.DiscoveryRecord.{DiscoveryRecord}
 use Rattle.packet.specs.declared.Packet.the-variants.{Discovery}
 use Rattle.pack.specs.Writing.{discoveryBytes, discoveryLength}

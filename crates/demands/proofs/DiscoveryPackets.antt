@@ -18,7 +18,7 @@ use Rattle.discovery.proofs.Laws.{bytes-length}
 use Rattle.framing.specs.Bytes.{framingHead}
 use Rattle.extended.specs.Bytes.{discoveryFramingBytes}
 use Rattle.packet.specs.Packet.{place, packetOf, readingOf}
-use Rattle.packet.specs.Parts.{shownAt, listedAt}
+use Rattle.parts.specs.Parts.{shownAt, listedAt}
 use Rattle.pack.specs.Writing.{discoveryBytes, discoveryLength}
 use Rattle.pack.proofs.Writing.{discovery-long}
 use Rattle.name.proofs.Laws.{bytes-64}

@@ -11,7 +11,7 @@ use Rattle.packet.specs.declared.Packet.{Packet}
 use Rattle.packet.specs.declared.Packet.the-variants.{Data, Synchronization, Discovery, Refused}
 use Rattle.packet.specs.declared.Reading.{Reading}
 use Rattle.packet.specs.Packet.{packetOf, cidOf, withCid, readingOf}
-use Rattle.packet.specs.Parts.{shownAt, listedAt}
+use Rattle.parts.specs.Parts.{shownAt, listedAt}
 use Rattle.demands.specs.Content.{synchronizationContent, discoveryContent, contentOf, meaning}
 
 -- a reading with its CID

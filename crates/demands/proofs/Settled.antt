@@ -27,10 +27,10 @@ use Rattle.extended.specs.Extended.{extendedOf}
 use Rattle.extended.specs.declared.synchronization.SynchronizationFields.{SynchronizationFields}
 use Rattle.root.specs.Root.{rootOf}
 use Rattle.packet.specs.Packet.{cidIn, packetOf, readingOf}
-use Rattle.packet.specs.Parts.{shownAt, namePlace, valuesPlace, copiedOf, universesIn, afterCopy}
+use Rattle.parts.specs.Parts.{shownAt, namePlace, valuesPlace, copiedOf, universesIn, afterCopy}
 use Rattle.packet.specs.declared.Place.{Place}
 use Rattle.packet.specs.declared.Reading.{Reading}
-use Rattle.packet.specs.declared.Copied.{Copied}
+use Rattle.parts.specs.declared.Copied.{Copied}
 use Rattle.pack.specs.Writing.{dataBytes, synchronizationBytes, discoveryBytes, dataLength, synchronizationLength, discoveryLength, dataWriteChecks, synchronizationWriteChecks, discoveryWriteChecks, packedOf, afterPack}
 use Rattle.pack.specs.declared.Packed.{Packed}
 use Rattle.edition2009.specs.Packet.{reading2009Of}
@@ -166,6 +166,9 @@ module _ (d : List ℕ) where
 
   pub parse : Settled (readingOf d)
   parse = settled
+
+  pub parse-packet : Settled (packetOf d)
+  parse-packet = settled
 
   pub cid : Settled (cidIn d)
   cid = settled

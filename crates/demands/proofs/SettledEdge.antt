@@ -1,25 +1,29 @@
 -- Demand 1 for the calls that show a reading and that Rust and C link: two results that satisfy a call's contract are equal, and so are two
 -- buffers at exit. Assumes nothing.
 use Prim.Native.Nat.{ℕ}
-use mathlib.Core.Path.{_≡_, sym, ap, _∙_}
+use mathlib.Core.Path.{_≡_, sym, _∙_}
 use mathlib.Core.List.{List}
 use lib.ListN.{length}
 use denote.Ref.{RefT, now}
 use Rattle.refusal.specs.Check.{checkedOf}
+use Rattle.refusal.specs.declared.Checked.{Checked}
 use Rattle.universe.specs.Universe.{universeChecks, multicastOf}
+use Rattle.universe.specs.declared.Multicast.{Multicast}
 use Rattle.discovery.specs.declared.DiscoveryFields.{DiscoveryFields}
 use Rattle.framing.specs.declared.data.DataFields.{DataFields}
 use Rattle.extended.specs.declared.synchronization.SynchronizationFields.{SynchronizationFields}
 use Rattle.packet.specs.Packet.{packetOf, readingOf}
-use Rattle.packet.specs.Parts.{shownAt, namePlace, valuesPlace, copiedOf, universesIn, afterCopy}
-use Rattle.packet.specs.Plain.{kindOf, plainOf}
 use Rattle.packet.specs.declared.Reading.{Reading}
+use Rattle.parts.specs.Parts.{shownAt, namePlace, valuesPlace, copiedOf, universesIn, afterCopy}
+use Rattle.parts.specs.Plain.{kindOf, plainOf}
+use Rattle.parts.specs.declared.Copied.{Copied}
 use Rattle.pack.specs.Writing.{dataBytes, synchronizationBytes, discoveryBytes, afterPack}
+use Rattle.pack.specs.declared.Packed.{Packed}
 use Rattle.edition2009.specs.Packet.{reading2009Of}
+use Rattle.edition2009.specs.declared.Reading2009.{Reading2009}
 use Rattle.view.specs.declared.Viewer.{Viewer}
+use Rattle.flat.specs.Flat.{foundOf, found2009Of, packedOutcome, copiedOutcome, refusalOf, addressOf}
 use Rattle.exports.specs.Answers.{dataAnswer, synchronizationAnswer, discoveryAnswer}
-use Rattle.exports.specs.Flat.{foundOf, found2009Of, packedOutcome, copiedOutcome, refusalOf, addressOf}
-use Rattle.exports.specs.declared.Outcome.{Outcome}
 use Rattle.demands.proofs.Settled.{Settled}
 
 -- an answer and a buffer that are each told by what was lent
@@ -29,7 +33,7 @@ SettledBoth {A} answer after = (r s : A) (b c : List ℕ) → (r ≡ answer) × 
 both : {A : Type 0} (answer : A) (after : List ℕ) → SettledBoth answer after
 both answer after r s b c e f = (e .0 ∙ sym (f .0), e .1 ∙ sym (f .1))
 
--- packet: plain
+-- parts: plain
 module _ (x : Reading) where
   pub kind-of : Settled (kindOf (x .packet))
   kind-of r s e f = e ∙ sym f
@@ -66,6 +70,25 @@ module _ (v : Viewer) where
 
   pub plain : Settled (plainOf (v .reading))
   plain r s e f = e ∙ sym f
+
+-- flat
+pub flatten : (x : Reading) → Settled (foundOf x)
+flatten x r s e f = e ∙ sym f
+
+pub flatten-2009 : (x : Reading2009) → Settled (found2009Of x)
+flatten-2009 x r s e f = e ∙ sym f
+
+pub packed-outcome : (x : Packed) → Settled (packedOutcome x)
+packed-outcome x r s e f = e ∙ sym f
+
+pub copied-outcome : (x : Copied) → Settled (copiedOutcome x)
+copied-outcome x r s e f = e ∙ sym f
+
+pub refusal-of : (x : Checked) → Settled (refusalOf x)
+refusal-of x r s e f = e ∙ sym f
+
+pub address-of : (x : Multicast) → Settled (addressOf x)
+address-of x r s e f = e ∙ sym f
 
 -- exports
 module _ (d : List ℕ) where

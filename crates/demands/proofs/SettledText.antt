@@ -12,7 +12,8 @@ use Rattle.capture.specs.Length.{lengthOf}
 use Rattle.capture.specs.Entry.{frontOf}
 use Rattle.text.specs.Put.{Put}
 use Rattle.text.specs.Digits.{decimal, hex}
-use Rattle.line.specs.Lines.{dataFieldsText, synchronizationText, pageText, refusalText, refusedLine, lineOf, lastLine}
+use Rattle.fields.specs.Texts.{dataFieldsText, synchronizationText, pageText, refusalText}
+use Rattle.line.specs.Lines.{refusedLine, lineOf, lastLine}
 use Rattle.line.specs.declared.Ending.{Ending}
 use Rattle.demands.proofs.Settled.{Settled}
 
@@ -45,7 +46,7 @@ module _ (out : List ℕ) (at : ℕ) where
   pub put-hex : (s : List ℕ) → SettledPut (hex s)
   put-hex s = puts (hex s)
 
-  -- line
+  -- fields
   pub put-data-fields : (f : DataFields) → SettledPut (dataFieldsText f)
   put-data-fields f = puts (dataFieldsText f)
 
@@ -61,6 +62,7 @@ module _ (out : List ℕ) (at : ℕ) where
   pub put-refusal : (r : Refusal) → SettledPut (refusalText r)
   put-refusal r = puts (refusalText r)
 
+  -- line
   pub put-refused : (n : ℕ) (r : Refusal) → SettledPut (refusedLine n r)
   put-refused n r = puts (refusedLine n r)
 

@@ -10,7 +10,7 @@ use Rattle.packet.specs.declared.Packet.{Packet}
 use Rattle.packet.specs.declared.Packet.the-variants as packet
 use Rattle.packet.specs.declared.Reading.{Reading}
 use Rattle.packet.specs.Packet.{readingOf}
-use Rattle.packet.specs.Parts.{shownAt, listedAt}
+use Rattle.parts.specs.Parts.{shownAt, listedAt}
 
 pub data Content : Type 0 where
   dataContent : List ℕ → DataFields → List ℕ → List ℕ → Content

@@ -2,7 +2,7 @@
 use Prim.Native.Nat.{ℕ}
 use mathlib.Core.List.{List}
 use Rattle.refusal.specs.declared.Refusal.{Refusal}
-use Rattle.packet.specs.Parts.{shownAt}
+use Rattle.parts.specs.Parts.{shownAt}
 use Rattle.refusal.specs.Check.{refusal, root}
 use Rattle.edition2009.specs.Packet.{reading2009Of, withCid2009}
 use Rattle.edition2009.specs.declared.Reading2009.{Reading2009}

@@ -1,6 +1,6 @@
 -- The parts of a datagram that a reading shows: none for a refusal.
 use Rattle.packet.specs.declared.Place.{Place}
-use Rattle.packet.specs.Parts.{nowherePlace}
+use Rattle.parts.specs.Parts.{nowherePlace}
 use Rattle.edition2009.specs.declared.Packet2009.{Packet2009}
 use Rattle.edition2009.specs.declared.Packet2009.the-variants.{Data, Refused}
 

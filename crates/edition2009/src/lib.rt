@@ -16,7 +16,7 @@ use root::Root;
 use wire::constants::E131_PREVIEW_DATA_OPTION_BIT_MASK;
 use wire::constants::E131_STREAM_TERMINATION_OPTION_BIT_MASK;
 ghost use mathlib.Core.Path.{_≡_};
-ghost use Rattle.packet.specs.Parts.{shownAt};
+ghost use Rattle.parts.specs.Parts.{shownAt};
 ghost use Rattle.edition2009.specs.Packet.{fields2009Of, dataPacket2009Of, packet2009Of, reading2009Of};
 ghost use Rattle.edition2009.specs.Parts.{namePlace, valuesPlace};
 
@@ -131,7 +131,7 @@ pub fn name(datagram: &[u8], reading: Reading2009) -> &[u8]
     ensures { λ r. ⌜ now r ≡ shownAt (now (datagram .entry)) (namePlace (reading .packet)) ⌝ }
 {
     let packet = reading.packet;
-    packet::shown(datagram, name_place(packet))
+    parts::shown(datagram, name_place(packet))
 }
 
 // The values, likewise.
@@ -139,5 +139,5 @@ pub fn values(datagram: &[u8], reading: Reading2009) -> &[u8]
     ensures { λ r. ⌜ now r ≡ shownAt (now (datagram .entry)) (valuesPlace (reading .packet)) ⌝ }
 {
     let packet = reading.packet;
-    packet::shown(datagram, values_place(packet))
+    parts::shown(datagram, values_place(packet))
 }

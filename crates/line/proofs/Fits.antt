@@ -13,11 +13,12 @@ use Rattle.discovery.specs.declared.DiscoveryFields.{DiscoveryFields}
 use Rattle.packet.specs.declared.Packet.{Packet}
 use Rattle.packet.specs.declared.Packet.the-variants.{Data, Synchronization, Discovery, Refused}
 use Rattle.packet.specs.declared.Reading.{Reading}
-use Rattle.packet.specs.Parts.{shownAt, namePlace}
+use Rattle.parts.specs.Parts.{shownAt, namePlace}
 use Rattle.text.specs.Digits.{decimal}
 use Rattle.text.proofs.Decimals.{decimal-length}
 use Rattle.text.proofs.Hex.{hex-length}
-use Rattle.line.specs.Lines.{dataFieldsText, synchronizationText, pageText, refusalText, dataLine, synchronizationLine, discoveryLine, refusedLine, packetLine, lineOf, lastLine}
+use Rattle.fields.specs.Texts.{dataFieldsText, synchronizationText, pageText, refusalText}
+use Rattle.line.specs.Lines.{dataLine, synchronizationLine, discoveryLine, refusedLine, packetLine, lineOf, lastLine}
 use Rattle.line.specs.declared.Ending.{Ending}
 use Rattle.line.specs.declared.Ending.the-variants.{End, Cut, Bad}
 

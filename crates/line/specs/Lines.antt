@@ -1,63 +1,19 @@
 -- The lines of document 01.
 use Prim.Native.Nat.{ℕ, _/_}
-use mathlib.Core.Bool.{Bool, true, false}
-use mathlib.Core.List.{List, [], _∷_, _++_}
+use mathlib.Core.List.{List, [], _∷_}
 use Rattle.wire.specs.Fields.{join}
 use Rattle.refusal.specs.declared.Refusal.{Refusal}
-use Rattle.framing.specs.declared.data.DataFields.{DataFields}
-use Rattle.extended.specs.declared.synchronization.SynchronizationFields.{SynchronizationFields}
-use Rattle.discovery.specs.declared.DiscoveryFields.{DiscoveryFields}
 use Rattle.packet.specs.declared.DataRecord.{DataRecord}
 use Rattle.packet.specs.declared.SynchronizationRecord.{SynchronizationRecord}
 use Rattle.packet.specs.declared.DiscoveryRecord.{DiscoveryRecord}
 use Rattle.packet.specs.declared.Packet.{Packet}
 use Rattle.packet.specs.declared.Packet.the-variants.{Data, Synchronization, Discovery, Refused}
 use Rattle.packet.specs.declared.Reading.{Reading}
-use Rattle.packet.specs.Parts.{shownAt, namePlace}
+use Rattle.parts.specs.Parts.{shownAt, namePlace}
 use Rattle.text.specs.Digits.{ascii, decimal, hex}
+use Rattle.fields.specs.Texts.{dataFieldsText, synchronizationText, pageText, refusalText}
 use Rattle.line.specs.declared.Ending.{Ending}
 use Rattle.line.specs.declared.Ending.the-variants.{End, Cut, Bad}
-
--- three digits: preview, terminated, force
-abbrev pub flagDigit : Bool → ℕ
-flagDigit true = 0x31
-flagDigit false = 0x30
-
-abbrev pub flags : DataFields → List ℕ
-flags f = flagDigit (f .«preview_data») ∷ flagDigit (f .«stream_terminated») ∷ flagDigit (f .«force_synchronization») ∷ []
-
-abbrev pub flagsText : DataFields → List ℕ
-flagsText f = ascii " flags " ++ flags f
-
--- `prio P sync A seq S flags F univ U`
-unfoldable pub dataFieldsText : DataFields → List ℕ
-dataFieldsText f =
-    join
-    (ascii " prio "
-    ∷ decimal (f .priority)
-    ∷ ascii " sync "
-    ∷ decimal (f .«synchronization_address»)
-    ∷ ascii " seq "
-    ∷ decimal (f .«sequence_number»)
-    ∷ ascii " flags "
-    ∷ flags f
-    ∷ ascii " univ "
-    ∷ decimal (f .universe)
-    ∷ [])
-
--- `seq S addr A`
-unfoldable pub synchronizationText : SynchronizationFields → List ℕ
-synchronizationText f = join (ascii " seq " ∷ decimal (f .«sequence_number») ∷ ascii " addr " ∷ decimal (f .«synchronization_address») ∷ [])
-
--- `page P last L`
-unfoldable pub pageText : DiscoveryFields → List ℕ
-pageText f = join (ascii " page " ∷ decimal (f .page) ∷ ascii " last " ∷ decimal (f .«last_page») ∷ [])
-
--- `refused R place Q value V`
-unfoldable pub refusalText : Refusal → List ℕ
-refusalText r =
-    join
-    (ascii " refused " ∷ decimal (r .number) ∷ ascii " place " ∷ decimal (r .place) ∷ ascii " value " ∷ decimal (r .value) ∷ [])
 
 -- `N data name H prio P sync A seq S flags F univ U values K`
 unfoldable pub dataLine : ℕ → List ℕ → DataRecord → List ℕ

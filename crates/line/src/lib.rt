@@ -1,18 +1,12 @@
 // The lines that tell what was read: one for each entry of a capture, and a last one.
-use discovery::DiscoveryFields;
-use extended::synchronization::SynchronizationFields;
-use framing::data::DataFields;
 use packet::DataRecord;
 use packet::DiscoveryRecord;
 use packet::Packet;
 use packet::Reading;
 use packet::SynchronizationRecord;
 use refusal::Refusal;
-ghost use mathlib.Core.Path.{_≡_};
-ghost use mathlib.Core.List.{_++_};
 ghost use Rattle.text.specs.Put.{Put};
-ghost use Rattle.text.specs.Digits.{decimal, hex};
-ghost use Rattle.line.specs.Lines.{flagDigit, flagsText, dataFieldsText, synchronizationText, pageText, refusalText, dataLine, synchronizationLine, discoveryLine, refusedLine, lineOf, lastWord, lastLine};
+ghost use Rattle.line.specs.Lines.{dataLine, synchronizationLine, discoveryLine, refusedLine, lineOf, lastWord, lastLine};
 
 // How a capture ends: at its end, inside an entry or its length, at a bad length.
 pub enum Ending {
@@ -21,66 +15,13 @@ pub enum Ending {
     Bad,
 }
 
-fn flag_digit(flag: bool) -> u8
-    ensures { λ r. ⌜ r ≡ flagDigit flag ⌝ }
-{
-    if flag { b'1' } else { b'0' }
-}
-
-// Preview, terminated, force.
-fn put_flags(out: &mut [u8], at: usize, fields: DataFields) -> usize
-    ensures { λ r. ⌜ Put (now (out .entry)) (now (out .exit)) at r (flagsText fields) ⌝ }
-{
-    let digits = [
-        flag_digit(fields.preview_data),
-        flag_digit(fields.stream_terminated),
-        flag_digit(fields.force_synchronization),
-    ];
-    let next = text::put(out, at, b" flags ");
-    text::put(out, next, &digits)
-}
-
-// From the priority to the universe.
-pub fn put_data_fields(out: &mut [u8], at: usize, fields: DataFields) -> usize
-    ensures { λ r. ⌜ Put (now (out .entry)) (now (out .exit)) at r (dataFieldsText fields) ⌝ }
-{
-    let next = text::put_field(out, at, b" prio ", fields.priority as u64);
-    let next = text::put_field(out, next, b" sync ", fields.synchronization_address as u64);
-    let next = text::put_field(out, next, b" seq ", fields.sequence_number as u64);
-    let next = put_flags(out, next, fields);
-    text::put_field(out, next, b" univ ", fields.universe as u64)
-}
-
-pub fn put_synchronization_fields(out: &mut [u8], at: usize, fields: SynchronizationFields) -> usize
-    ensures { λ r. ⌜ Put (now (out .entry)) (now (out .exit)) at r (synchronizationText fields) ⌝ }
-{
-    let next = text::put_field(out, at, b" seq ", fields.sequence_number as u64);
-    text::put_field(out, next, b" addr ", fields.synchronization_address as u64)
-}
-
-pub fn put_page(out: &mut [u8], at: usize, fields: DiscoveryFields) -> usize
-    ensures { λ r. ⌜ Put (now (out .entry)) (now (out .exit)) at r (pageText fields) ⌝ }
-{
-    let next = text::put_field(out, at, b" page ", fields.page as u64);
-    text::put_field(out, next, b" last ", fields.last_page as u64)
-}
-
-// An entry's number, a word, and bytes in hex.
-pub fn put_named(out: &mut [u8], at: usize, n: u64, word: &[u8], name: &[u8]) -> usize
-    ensures { λ r. ⌜ Put (now (out .entry)) (now (out .exit)) at r (decimal n ++ (now (word .entry) ++ hex (now (name .entry)))) ⌝ }
-{
-    let next = text::put_decimal(out, at, n);
-    let next = text::put(out, next, word);
-    text::put_hex(out, next, name)
-}
-
 fn put_data(out: &mut [u8], at: usize, n: u64, name: &[u8], x: DataRecord) -> usize
     ensures { λ r. ⌜ Put (now (out .entry)) (now (out .exit)) at r (dataLine n (now (name .entry)) x) ⌝ }
 {
     let fields = x.fields;
     let values = x.values;
-    let next = put_named(out, at, n, b" data name ", name);
-    let next = put_data_fields(out, next, fields);
+    let next = fields::put_named(out, at, n, b" data name ", name);
+    let next = fields::put_data_fields(out, next, fields);
     let next = text::put_field(out, next, b" values ", values.len as u64);
     text::put(out, next, b"\n")
 }
@@ -91,7 +32,7 @@ fn put_synchronization(out: &mut [u8], at: usize, n: u64, x: SynchronizationReco
     let fields = x.fields;
     let next = text::put_decimal(out, at, n);
     let next = text::put(out, next, b" sync");
-    let next = put_synchronization_fields(out, next, fields);
+    let next = fields::put_synchronization_fields(out, next, fields);
     text::put(out, next, b"\n")
 }
 
@@ -100,25 +41,17 @@ fn put_discovery(out: &mut [u8], at: usize, n: u64, name: &[u8], x: DiscoveryRec
 {
     let fields = x.fields;
     let universes = x.universes;
-    let next = put_named(out, at, n, b" disc name ", name);
-    let next = put_page(out, next, fields);
+    let next = fields::put_named(out, at, n, b" disc name ", name);
+    let next = fields::put_page(out, next, fields);
     let next = text::put_field(out, next, b" count ", (universes.len / 2) as u64);
     text::put(out, next, b"\n")
-}
-
-pub fn put_refusal(out: &mut [u8], at: usize, refusal: Refusal) -> usize
-    ensures { λ r. ⌜ Put (now (out .entry)) (now (out .exit)) at r (refusalText refusal) ⌝ }
-{
-    let next = text::put_field(out, at, b" refused ", refusal.number as u64);
-    let next = text::put_field(out, next, b" place ", refusal.place as u64);
-    text::put_field(out, next, b" value ", refusal.value as u64)
 }
 
 pub fn put_refused(out: &mut [u8], at: usize, n: u64, refusal: Refusal) -> usize
     ensures { λ r. ⌜ Put (now (out .entry)) (now (out .exit)) at r (refusedLine n refusal) ⌝ }
 {
     let next = text::put_decimal(out, at, n);
-    let next = put_refusal(out, next, refusal);
+    let next = fields::put_refusal(out, next, refusal);
     text::put(out, next, b"\n")
 }
 
@@ -128,9 +61,9 @@ pub fn put_line(out: &mut [u8], at: usize, n: u64, datagram: &[u8], reading: Rea
 {
     let packet = reading.packet;
     match packet {
-        Packet::Data(x) => put_data(out, at, n, packet::name(datagram, reading), x),
+        Packet::Data(x) => put_data(out, at, n, parts::name(datagram, reading), x),
         Packet::Synchronization(x) => put_synchronization(out, at, n, x),
-        Packet::Discovery(x) => put_discovery(out, at, n, packet::name(datagram, reading), x),
+        Packet::Discovery(x) => put_discovery(out, at, n, parts::name(datagram, reading), x),
         Packet::Refused(r) => put_refused(out, at, n, r),
     }
 }

@@ -1,4 +1,2 @@
 pub mod Packet
 pub mod Table
-pub mod Parts
-pub mod Plain

@@ -1,6 +1,4 @@
-// A whole datagram: what it is read as, and the parts of it that a reading shows.
-pub mod plain;
-
+// A whole datagram: what it is read as.
 use discovery::DiscoveryFields;
 use extended::Extended;
 use extended::synchronization::SynchronizationFields;
@@ -13,10 +11,7 @@ use root::Root;
 use wire::constants::E131_CID_FIELD_LENGTH;
 use wire::constants::VECTOR_ROOT_E131_DATA;
 ghost use mathlib.Core.Path.{_≡_};
-ghost use lib.ListN.{length};
-ghost use Rattle.refusal.specs.Check.{refusal, nowhere};
 ghost use Rattle.packet.specs.Packet.{dataPacketOf, extendedPacketOf, packetOf, cidIn, readingOf};
-ghost use Rattle.packet.specs.Parts.{shownAt, namePlace, valuesPlace, copiedOf, listedAt, universesIn, afterCopy};
 
 // Where the fields start in a datagram.
 const CID_START: usize = 22;
@@ -66,11 +61,6 @@ pub struct Reading {
     pub packet: Packet,
 }
 
-pub enum Copied {
-    Universes { count: usize },
-    Refused(Refusal),
-}
-
 // The framing layer of a data packet, whose part is p.
 fn parse_data(p: &[u8]) -> Packet
     ensures { λ r. ⌜ r ≡ dataPacketOf (now (p .entry)) ⌝ }
@@ -118,7 +108,8 @@ fn parse_extended(p: &[u8], whole: usize) -> Packet
     }
 }
 
-fn parse_packet(datagram: &[u8]) -> Packet
+// What a datagram is read as, without the CID.
+pub fn parse_packet(datagram: &[u8]) -> Packet
     ensures { λ r. ⌜ r ≡ packetOf (now (datagram .entry)) ⌝ }
 {
     match root::parse(datagram, Edition::E2018) {
@@ -168,84 +159,5 @@ pub fn parse(datagram: &[u8]) -> Reading
             cid: cid(datagram),
             packet: Packet::Discovery(x),
         },
-    }
-}
-
-// What stands at a place, or nothing where the place runs past the datagram.
-pub fn shown(datagram: &[u8], place: Place) -> &[u8]
-    ensures { λ r. ⌜ now r ≡ shownAt (now (datagram .entry)) place ⌝ }
-{
-    let start = place.start;
-    let len = place.len;
-    wire::part(datagram, start, len)
-}
-
-fn name_place(packet: Packet) -> Place
-    ensures { λ r. ⌜ r ≡ namePlace packet ⌝ }
-{
-    match packet {
-        Packet::Data(x) => x.name,
-        Packet::Discovery(x) => x.name,
-        Packet::Synchronization(_) => Place { start: 0, len: 0 },
-        Packet::Refused(_) => Place { start: 0, len: 0 },
-    }
-}
-
-fn values_place(packet: Packet) -> Place
-    ensures { λ r. ⌜ r ≡ valuesPlace packet ⌝ }
-{
-    match packet {
-        Packet::Data(x) => x.values,
-        Packet::Discovery(_) => Place { start: 0, len: 0 },
-        Packet::Synchronization(_) => Place { start: 0, len: 0 },
-        Packet::Refused(_) => Place { start: 0, len: 0 },
-    }
-}
-
-// The name, as the part of the datagram that it occupies; empty where there is none.
-pub fn name(datagram: &[u8], reading: Reading) -> &[u8]
-    ensures { λ r. ⌜ now r ≡ shownAt (now (datagram .entry)) (namePlace (reading .packet)) ⌝ }
-{
-    let packet = reading.packet;
-    shown(datagram, name_place(packet))
-}
-
-// The values, likewise.
-pub fn values(datagram: &[u8], reading: Reading) -> &[u8]
-    ensures { λ r. ⌜ now r ≡ shownAt (now (datagram .entry)) (valuesPlace (reading .packet)) ⌝ }
-{
-    let packet = reading.packet;
-    shown(datagram, values_place(packet))
-}
-
-fn refuse_copy() -> Copied
-    ensures { λ r. ⌜ r ≡ Copied.Refused (refusal 31 nowhere 0) ⌝ }
-{
-    Copied::Refused(Refusal::new(refusal::NO_UNIVERSES_COPIED, refusal::NOWHERE, 0))
-}
-
-fn copy_listed(datagram: &[u8], x: DiscoveryRecord, out: &mut [u16]) -> Copied
-    ensures answer { λ r. ⌜ r ≡ copiedOf (Packet.Discovery x) (length (now (out .entry))) ⌝ }
-    ensures filled { λ r. ⌜ now (out .exit) ≡ afterCopy r (listedAt (now (datagram .entry)) (x .universes)) (now (out .entry)) ⌝ }
-{
-    let place = x.universes;
-    let count = place.len / 2;
-    if out.len() < count {
-        return refuse_copy();
-    }
-    discovery::copy_universes(shown(datagram, place), out);
-    Copied::Universes { count }
-}
-
-// Reads a datagram and fills `out` with its universes. At a refusal `out` is left as found.
-pub fn copy_universes(datagram: &[u8], out: &mut [u16]) -> Copied
-    ensures answer { λ r. ⌜ r ≡ copiedOf (packetOf (now (datagram .entry))) (length (now (out .entry))) ⌝ }
-    ensures filled { λ r. ⌜ now (out .exit) ≡ afterCopy r (universesIn (now (datagram .entry))) (now (out .entry)) ⌝ }
-{
-    match parse_packet(datagram) {
-        Packet::Discovery(x) => copy_listed(datagram, x, out),
-        Packet::Data(_) => refuse_copy(),
-        Packet::Synchronization(_) => refuse_copy(),
-        Packet::Refused(_) => refuse_copy(),
     }
 }

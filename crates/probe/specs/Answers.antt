@@ -5,12 +5,13 @@ use Rattle.wire.specs.Fields.{join}
 use Rattle.packet.specs.declared.DataRecord.{DataRecord}
 use Rattle.packet.specs.declared.SynchronizationRecord.{SynchronizationRecord}
 use Rattle.packet.specs.declared.Reading.{Reading}
-use Rattle.packet.specs.Parts.{shownAt, namePlace, valuesPlace}
+use Rattle.parts.specs.Parts.{shownAt, namePlace, valuesPlace}
 use Rattle.universe.specs.declared.Ipv4Address.{Ipv4Address}
 use Rattle.universe.specs.declared.Multicast.{Multicast}
 use Rattle.universe.specs.declared.Multicast.the-variants.{Address, Refused}
 use Rattle.text.specs.Digits.{ascii, decimal, hex}
-use Rattle.line.specs.Lines.{dataFieldsText, synchronizationText, refusedLine}
+use Rattle.fields.specs.Texts.{dataFieldsText, synchronizationText}
+use Rattle.line.specs.Lines.{refusedLine}
 
 -- `N data cid C name H prio P sync A seq S flags F univ U values V`
 unfoldable pub dataAnswer : ℕ → List ℕ → Reading → DataRecord → List ℕ

@@ -1,10 +1,10 @@
 // A datagram that is read: every field, and all bytes of what it carries.
-use packet::Copied;
 use packet::DataRecord;
 use packet::DiscoveryRecord;
 use packet::Packet;
 use packet::Reading;
 use packet::SynchronizationRecord;
+use parts::Copied;
 ghost use mathlib.Core.Path.{_≡_};
 ghost use mathlib.Core.List.{_++_};
 ghost use Prim.Native.Nat.{_*_, min};
@@ -39,10 +39,10 @@ fn put_data(
 {
     let cid = reading.cid;
     let fields = x.fields;
-    let next = line::put_named(out, at, n, b" data cid ", &cid);
-    let next = put_bytes(out, next, b" name ", packet::name(datagram, reading));
-    let next = line::put_data_fields(out, next, fields);
-    let next = put_bytes(out, next, b" values ", packet::values(datagram, reading));
+    let next = fields::put_named(out, at, n, b" data cid ", &cid);
+    let next = put_bytes(out, next, b" name ", parts::name(datagram, reading));
+    let next = fields::put_data_fields(out, next, fields);
+    let next = put_bytes(out, next, b" values ", parts::values(datagram, reading));
     text::put(out, next, b"\n")
 }
 
@@ -65,7 +65,7 @@ fn spell_numbers(bytes: &mut [u8], numbers: &[u16], count: usize) -> usize
 // The bytes of a datagram's universes, as many as were copied out of it.
 fn spell_universes(bytes: &mut [u8], datagram: &[u8]) -> usize {
     let mut universes = [0; MOST_UNIVERSES];
-    match packet::copy_universes(datagram, &mut universes) {
+    match parts::copy_universes(datagram, &mut universes) {
         Copied::Universes { count } => spell_numbers(bytes, &universes, count),
         Copied::Refused(_) => 0,
     }
@@ -88,9 +88,9 @@ fn put_discovery(
 ) -> usize {
     let cid = reading.cid;
     let fields = x.fields;
-    let next = line::put_named(out, at, n, b" disc cid ", &cid);
-    let next = put_bytes(out, next, b" name ", packet::name(datagram, reading));
-    let next = line::put_page(out, next, fields);
+    let next = fields::put_named(out, at, n, b" disc cid ", &cid);
+    let next = put_bytes(out, next, b" name ", parts::name(datagram, reading));
+    let next = fields::put_page(out, next, fields);
     let next = put_universes(out, next, datagram);
     text::put(out, next, b"\n")
 }
@@ -107,8 +107,8 @@ fn put_synchronization(
 {
     let cid = reading.cid;
     let fields = x.fields;
-    let next = line::put_named(out, at, n, b" sync cid ", &cid);
-    let next = line::put_synchronization_fields(out, next, fields);
+    let next = fields::put_named(out, at, n, b" sync cid ", &cid);
+    let next = fields::put_synchronization_fields(out, next, fields);
     text::put(out, next, b"\n")
 }
 

@@ -85,7 +85,7 @@ fn put_packed(out: &mut [u8], at: usize, n: u64, packed: Packed, buf: &[u8]) -> 
             text::put(out, next, b"\n")
         }
         Packed::Refused(r) => {
-            let next = line::put_refusal(out, next, r);
+            let next = fields::put_refusal(out, next, r);
             if is_kept(buf) {
                 return text::put(out, next, b" kept\n");
             }

@@ -6,9 +6,9 @@ use lib.ListN.{length, drop}
 use Rattle.discovery.specs.declared.DiscoveryFields.{DiscoveryFields}
 use Rattle.framing.specs.declared.data.DataFields.{DataFields}
 use Rattle.packet.specs.Packet.{packetOf, readingOf}
-use Rattle.packet.specs.Parts.{copiedOf, universesIn, afterCopy}
-use Rattle.packet.specs.declared.Copied.{Copied}
-use Rattle.packet.specs.declared.Copied.the-variants as copied
+use Rattle.parts.specs.Parts.{copiedOf, universesIn, afterCopy}
+use Rattle.parts.specs.declared.Copied.{Copied}
+use Rattle.parts.specs.declared.Copied.the-variants as copied
 use Rattle.packet.specs.declared.Reading.{Reading}
 use Rattle.pack.specs.Writing.{dataBytes, dataLength, dataWriteChecks, discoveryBytes, discoveryLength, discoveryWriteChecks, packedOf, afterPack}
 use Rattle.pack.specs.declared.Packed.{Packed}

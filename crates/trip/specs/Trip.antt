@@ -2,11 +2,11 @@
 use Prim.Native.Nat.{ℕ}
 use mathlib.Core.List.{List, []}
 use Rattle.packet.specs.Packet.{packetOf, readingOf, withCid}
-use Rattle.packet.specs.Parts.{copiedOf, universesIn, afterCopy}
+use Rattle.parts.specs.Parts.{copiedOf, universesIn, afterCopy}
 use Rattle.packet.specs.declared.Packet.the-variants as packet
 use Rattle.packet.specs.declared.Reading.{Reading}
-use Rattle.packet.specs.declared.Copied.{Copied}
-use Rattle.packet.specs.declared.Copied.the-variants as copied
+use Rattle.parts.specs.declared.Copied.{Copied}
+use Rattle.parts.specs.declared.Copied.the-variants as copied
 use Rattle.pack.specs.declared.Packed.{Packed}
 use Rattle.pack.specs.declared.Packed.the-variants.{Length, Refused}
 

@@ -2,9 +2,9 @@
 use discovery::DiscoveryFields;
 use framing::data::DataFields;
 use pack::Packed;
-use packet::Copied;
 use packet::Packet;
 use packet::Reading;
+use parts::Copied;
 ghost use mathlib.Core.Path.{_≡_};
 ghost use mathlib.Core.List.{_++_};
 ghost use Prim.Native.Nat.{_≤_};
@@ -51,6 +51,6 @@ pub fn discovery_trip(
 {
     match pack::pack_discovery(buf, cid, fields, name, universes) {
         Packed::Refused(r) => Copied::Refused(r),
-        Packed::Length(_) => packet::copy_universes(buf, out),
+        Packed::Length(_) => parts::copy_universes(buf, out),
     }
 }

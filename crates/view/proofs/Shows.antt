@@ -6,10 +6,10 @@ use ghost.Atoms.{Atoms}
 use types.Kit.{Given}
 use denote.Enum.Laws as enum-laws
 use denote.Struct.Laws as struct-laws
-use Rattle.packet.proofs.plain.Kind as kind-type
-use Rattle.packet.proofs.plain.Kind.Laws as kind-laws
-use Rattle.packet.proofs.plain.Plain as plain-type
-use Rattle.packet.proofs.plain.Plain.Laws as plain-laws
+use Rattle.parts.proofs.plain.Kind as kind-type
+use Rattle.parts.proofs.plain.Kind.Laws as kind-laws
+use Rattle.parts.proofs.plain.Plain as plain-type
+use Rattle.parts.proofs.plain.Plain.Laws as plain-laws
 use Rattle.view.specs.View.{shownKind, shownPlain}
 use Rattle.view.proofs.Viewing.{Shown, IsTyped, told}
 

@@ -1,11 +1,11 @@
 -- What a viewer shows of a datagram and its reading.
 use Prim.Native.Nat.{ℕ}
 use mathlib.Core.List.{List}
-use Rattle.packet.specs.Parts.{shownAt, namePlace, valuesPlace}
-use Rattle.packet.specs.Plain.{kindOf, plainOf}
+use Rattle.parts.specs.Parts.{shownAt, namePlace, valuesPlace}
+use Rattle.parts.specs.Plain.{kindOf, plainOf}
 use Rattle.packet.specs.declared.Reading.{Reading}
-use Rattle.packet.specs.declared.plain.Kind.{Kind}
-use Rattle.packet.specs.declared.plain.Plain.{Plain}
+use Rattle.parts.specs.declared.plain.Kind.{Kind}
+use Rattle.parts.specs.declared.plain.Plain.{Plain}
 
 abbrev pub shownName : List ℕ → Reading → List ℕ
 shownName d x = shownAt d (namePlace (x .packet))

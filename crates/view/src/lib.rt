@@ -1,8 +1,8 @@
 // A viewer keeps the lent datagram beside what was read from it, so that nobody shows the parts of one datagram by
-// the places of another. Its calls are thin: `packet` says what is shown.
+// the places of another. Its calls are thin: `parts` says what is shown.
 use packet::Reading;
-use packet::plain::Kind;
-use packet::plain::Plain;
+use parts::plain::Kind;
+use parts::plain::Plain;
 ghost use mathlib.Core.Path.{_≡_};
 ghost use Rattle.packet.specs.Packet.{readingOf};
 ghost use Rattle.view.specs.View.{shownName, shownValues, shownKind, shownPlain};
@@ -24,27 +24,27 @@ pub fn view<'a>(datagram: &'a [u8]) -> Viewer<'a>
 pub fn name<'a>(viewer: Viewer<'a>) -> &'a [u8]
     ensures { λ r. ⌜ now r ≡ shownName (now (viewer .entry .datagram)) (viewer .entry .reading) ⌝ }
 {
-    packet::name(viewer.datagram, viewer.reading)
+    parts::name(viewer.datagram, viewer.reading)
 }
 
 // The values, likewise.
 pub fn values<'a>(viewer: Viewer<'a>) -> &'a [u8]
     ensures { λ r. ⌜ now r ≡ shownValues (now (viewer .entry .datagram)) (viewer .entry .reading) ⌝ }
 {
-    packet::values(viewer.datagram, viewer.reading)
+    parts::values(viewer.datagram, viewer.reading)
 }
 
 pub fn kind<'a>(viewer: Viewer<'a>) -> Kind
     ensures { λ r. ⌜ r ≡ shownKind (viewer .entry .reading) ⌝ }
 {
-    packet::plain::kind_of(viewer.reading)
+    parts::plain::kind_of(viewer.reading)
 }
 
 // The CID and the plain fields, or the refusal.
 pub fn plain<'a>(viewer: Viewer<'a>) -> Plain
     ensures { λ r. ⌜ r ≡ shownPlain (viewer .entry .reading) ⌝ }
 {
-    packet::plain::plain_of(viewer.reading)
+    parts::plain::plain_of(viewer.reading)
 }
 
 // What a datagram's viewer shows. A caller of these holds no viewer, so its own proof needs no walk.

@@ -3,8 +3,8 @@
 use discovery::DiscoveryFields;
 use extended::synchronization::SynchronizationFields;
 use framing::data::DataFields;
-use packet::plain::Fields;
-use packet::plain::Kind;
+use parts::plain::Fields;
+use parts::plain::Kind;
 
 const STANDARD_OUTPUT: i32 = 1;
 
@@ -28,10 +28,10 @@ fn put_kind(out: &mut [u8], at: usize, kind: Kind) -> usize {
 
 fn put_fields(out: &mut [u8], at: usize, fields: Fields) -> usize {
     match fields {
-        Fields::Data(x) => line::put_data_fields(out, at, x),
-        Fields::Synchronization(x) => line::put_synchronization_fields(out, at, x),
-        Fields::Discovery(x) => line::put_page(out, at, x),
-        Fields::Refused(r) => line::put_refusal(out, at, r),
+        Fields::Data(x) => fields::put_data_fields(out, at, x),
+        Fields::Synchronization(x) => fields::put_synchronization_fields(out, at, x),
+        Fields::Discovery(x) => fields::put_page(out, at, x),
+        Fields::Refused(r) => fields::put_refusal(out, at, r),
     }
 }
 

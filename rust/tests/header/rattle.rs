@@ -42,7 +42,7 @@ pub fn numbers_and_places(sources: &Sources) -> (Constants, Constants) {
 }
 
 pub fn kinds(sources: &Sources) -> Constants {
-    constants(&sources["exports/lib.rt"])
+    constants(&sources["flat/lib.rt"])
 }
 
 /// The header as the sources have it: the exported functions, the structs that they name, and theirs.

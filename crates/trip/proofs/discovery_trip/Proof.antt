@@ -1,7 +1,7 @@
 use mathlib.Core.Path.{refl}
 use borrow.Author.Needs.{needs}
 use denote.Ref.{now}
-use Rattle.packet.specs.declared.Copied.the-variants as copied
+use Rattle.parts.specs.declared.Copied.the-variants as copied
 use Rattle.trip.proofs.Laws.{discovery-returned}
 use Rattle.trip.proofs.discovery_trip.Statement.{statement}
 use Rattle.trip.proofs.discovery_trip.Tie as tie

@@ -1,12 +1,12 @@
--- `view::kind` tells what `packet::plain::kind_of` tells, by the walk of `Told`.
+-- `view::kind` tells what `parts::plain::kind_of` tells, by the walk of `Told`.
 -- Assumes nothing.
 use contract.Running.{givenOf, tables, tablesOf}
 use denote.Triple.Spec.{tripleOf}
 use denote.Triple.Table.{entered, cited}
-use Rattle.packet.proofs.plain.Kind as result
-use Rattle.packet.proofs.plain.Kind.Laws as result-laws
-use Rattle.packet.proofs.plain.kind_of.Symbol as callee
-use Rattle.packet.proofs.plain.kind_of.Met as callee-met
+use Rattle.parts.proofs.plain.Kind as result
+use Rattle.parts.proofs.plain.Kind.Laws as result-laws
+use Rattle.parts.proofs.plain.kind_of.Symbol as callee
+use Rattle.parts.proofs.plain.kind_of.Met as callee-met
 use Rattle.view.specs.View.{shownKind}
 use Rattle.view.proofs.Shows.{kind-typed}
 use Rattle.view.proofs.Told.{OfReading, told-meets}
@@ -22,4 +22,4 @@ kind-spec 𝓤 H 𝓜 𝓖 𝓡 =
     entered 𝓤 H (tripleOf 𝓤 H (𝓖 .A) f.signature (f.spec 𝓤 H (𝓖 .A) (𝓜 .mem) (𝓡 .run)))
     (tables 𝓤 H 𝓜 𝓡 code.env .C) (tables 𝓤 H 𝓜 𝓡 code.env .Λ) key.name code.function (code.unfolded 𝓤 H 𝓜 𝓡)
     (told-meets result.the-row result-laws.mir shownKind (kind-typed 𝓤 H (𝓖 .A) W) 𝓤 H (𝓖 .A) W callee.name (tablesOf 𝓤 H 𝓜 (tables 𝓤 H 𝓜 𝓡 code.env))
-    (cited 𝓤 H (OfReading result.the-row result-laws.mir shownKind 𝓤 H (𝓖 .A)) 𝓜 𝓡 code.env callee.name callee.routine code.calls-packet·plain·kind-of (callee-met.met 𝓤 H 𝓜 𝓖 𝓡)))
+    (cited 𝓤 H (OfReading result.the-row result-laws.mir shownKind 𝓤 H (𝓖 .A)) 𝓜 𝓡 code.env callee.name callee.routine code.calls-parts·plain·kind-of (callee-met.met 𝓤 H 𝓜 𝓖 𝓡)))

@@ -1,10 +1,10 @@
--- `view::name` shows what `packet::name` shows, by the walk of `Parts`.
+-- `view::name` shows what `parts::name` shows, by the walk of `Parts`.
 -- Assumes nothing.
 use contract.Running.{givenOf, tables, tablesOf}
 use denote.Triple.Spec.{tripleOf}
 use denote.Triple.Table.{entered, cited}
-use Rattle.packet.proofs.name.Symbol as callee
-use Rattle.packet.proofs.name.Met as callee-met
+use Rattle.parts.proofs.name.Symbol as callee
+use Rattle.parts.proofs.name.Met as callee-met
 use Rattle.view.proofs.Parts.{OfPlaces, part-meets}
 use Rattle.view.specs.View.{shownName}
 use Rattle.view.proofs.name as f
@@ -19,4 +19,4 @@ name-spec 𝓤 H 𝓜 𝓖 𝓡 =
     entered 𝓤 H (tripleOf 𝓤 H (𝓖 .A) f.signature (f.spec 𝓤 H (𝓖 .A) (𝓜 .mem) (𝓡 .run)))
     (tables 𝓤 H 𝓜 𝓡 code.env .C) (tables 𝓤 H 𝓜 𝓡 code.env .Λ) key.name code.function (code.unfolded 𝓤 H 𝓜 𝓡)
     (part-meets 𝓤 H (𝓖 .A) W shownName callee.name (tablesOf 𝓤 H 𝓜 (tables 𝓤 H 𝓜 𝓡 code.env))
-    (cited 𝓤 H (OfPlaces 𝓤 H (𝓖 .A) shownName) 𝓜 𝓡 code.env callee.name callee.routine code.calls-packet·name (callee-met.met 𝓤 H 𝓜 𝓖 𝓡)))
+    (cited 𝓤 H (OfPlaces 𝓤 H (𝓖 .A) shownName) 𝓜 𝓡 code.env callee.name callee.routine code.calls-parts·name (callee-met.met 𝓤 H 𝓜 𝓖 𝓡)))

@@ -1,13 +1,13 @@
--- `view::plain` tells what `packet::plain::plain_of` tells, by the walk of `Told`.
+-- `view::plain` tells what `parts::plain::plain_of` tells, by the walk of `Told`.
 -- Assumes nothing.
 use contract.Running.{givenOf, tables, tablesOf}
 use denote.Triple.Spec.{tripleOf}
 use denote.Triple.Table.{entered, cited}
 use Rattle.view.specs.View.{shownPlain}
-use Rattle.packet.proofs.plain.Plain as result
-use Rattle.packet.proofs.plain.Plain.Laws as result-laws
-use Rattle.packet.proofs.plain.plain_of.Symbol as callee
-use Rattle.packet.proofs.plain.plain_of.Met as callee-met
+use Rattle.parts.proofs.plain.Plain as result
+use Rattle.parts.proofs.plain.Plain.Laws as result-laws
+use Rattle.parts.proofs.plain.plain_of.Symbol as callee
+use Rattle.parts.proofs.plain.plain_of.Met as callee-met
 use Rattle.view.proofs.Shows.{plain-typed}
 use Rattle.view.proofs.Told.{OfReading, told-meets}
 use Rattle.view.proofs.plain as f
@@ -22,4 +22,4 @@ plain-spec 𝓤 H 𝓜 𝓖 𝓡 =
     entered 𝓤 H (tripleOf 𝓤 H (𝓖 .A) f.signature (f.spec 𝓤 H (𝓖 .A) (𝓜 .mem) (𝓡 .run)))
     (tables 𝓤 H 𝓜 𝓡 code.env .C) (tables 𝓤 H 𝓜 𝓡 code.env .Λ) key.name code.function (code.unfolded 𝓤 H 𝓜 𝓡)
     (told-meets result.the-row result-laws.mir shownPlain (plain-typed 𝓤 H (𝓖 .A) W) 𝓤 H (𝓖 .A) W callee.name (tablesOf 𝓤 H 𝓜 (tables 𝓤 H 𝓜 𝓡 code.env))
-    (cited 𝓤 H (OfReading result.the-row result-laws.mir shownPlain 𝓤 H (𝓖 .A)) 𝓜 𝓡 code.env callee.name callee.routine code.calls-packet·plain·plain-of (callee-met.met 𝓤 H 𝓜 𝓖 𝓡)))
+    (cited 𝓤 H (OfReading result.the-row result-laws.mir shownPlain 𝓤 H (𝓖 .A)) 𝓜 𝓡 code.env callee.name callee.routine code.calls-parts·plain·plain-of (callee-met.met 𝓤 H 𝓜 𝓖 𝓡)))

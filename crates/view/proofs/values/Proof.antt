@@ -1,10 +1,10 @@
--- `view::values` shows what `packet::values` shows, by the walk of `Parts`.
+-- `view::values` shows what `parts::values` shows, by the walk of `Parts`.
 -- Assumes nothing.
 use contract.Running.{givenOf, tables, tablesOf}
 use denote.Triple.Spec.{tripleOf}
 use denote.Triple.Table.{entered, cited}
-use Rattle.packet.proofs.values.Symbol as callee
-use Rattle.packet.proofs.values.Met as callee-met
+use Rattle.parts.proofs.values.Symbol as callee
+use Rattle.parts.proofs.values.Met as callee-met
 use Rattle.view.proofs.Parts.{OfPlaces, part-meets}
 use Rattle.view.specs.View.{shownValues}
 use Rattle.view.proofs.values as f
@@ -19,4 +19,4 @@ values-spec 𝓤 H 𝓜 𝓖 𝓡 =
     entered 𝓤 H (tripleOf 𝓤 H (𝓖 .A) f.signature (f.spec 𝓤 H (𝓖 .A) (𝓜 .mem) (𝓡 .run)))
     (tables 𝓤 H 𝓜 𝓡 code.env .C) (tables 𝓤 H 𝓜 𝓡 code.env .Λ) key.name code.function (code.unfolded 𝓤 H 𝓜 𝓡)
     (part-meets 𝓤 H (𝓖 .A) W shownValues callee.name (tablesOf 𝓤 H 𝓜 (tables 𝓤 H 𝓜 𝓡 code.env))
-    (cited 𝓤 H (OfPlaces 𝓤 H (𝓖 .A) shownValues) 𝓜 𝓡 code.env callee.name callee.routine code.calls-packet·values (callee-met.met 𝓤 H 𝓜 𝓖 𝓡)))
+    (cited 𝓤 H (OfPlaces 𝓤 H (𝓖 .A) shownValues) 𝓜 𝓡 code.env callee.name callee.routine code.calls-parts·values (callee-met.met 𝓤 H 𝓜 𝓖 𝓡)))

@@ -1,0 +1,40 @@
+use borrow.Author.Needs.{needs}
+use Rattle.parts.proofs.plain.fields_of.Statement.{statement}
+use Rattle.parts.proofs.plain.fields_of.Tie as tie
+
+enum-known-packet : tie.Need-enum-known-packet
+enum-known-packet c = search needs
+
+enum-known-packet-2 : tie.Need-enum-known-packet-2
+enum-known-packet-2 c = search needs
+
+enum-known-packet-3 : tie.Need-enum-known-packet-3
+enum-known-packet-3 c = search needs
+
+enum-known-packet-4 : tie.Need-enum-known-packet-4
+enum-known-packet-4 c = search needs
+
+returns : tie.Need-returns
+returns c = cc
+
+returns-2 : tie.Need-returns-2
+returns-2 c = cc
+
+returns-3 : tie.Need-returns-3
+returns-3 c = cc
+
+returns-4 : tie.Need-returns-4
+returns-4 c = cc
+
+pub fields-of-spec : {M : Type 1} → statement M
+fields-of-spec =
+    tie.close
+    (tie.spec
+    enum-known-packet
+    enum-known-packet-2
+    enum-known-packet-3
+    enum-known-packet-4
+    returns
+    returns-2
+    returns-3
+    returns-4)
