@@ -22,7 +22,7 @@ pub(crate) const DISCOVERY: u8 = 3;
 
 #[repr(C)]
 #[derive(Clone, Copy)]
-struct Place {
+pub(crate) struct Place {
     start: usize,
     len: usize,
 }
@@ -168,57 +168,66 @@ impl Outcome {
     }
 }
 
-/// What was found in a datagram, beside that datagram. Only `parse` makes one and nobody changes it,
-/// so the places are those of this datagram.
-pub(crate) struct Reading<'a> {
-    datagram: &'a [u8],
-    found: Found,
+/// The places that both readers answer.
+pub(crate) trait Places {
+    fn name(&self) -> Place;
+    fn values(&self) -> Place;
 }
 
-impl<'a> Reading<'a> {
+impl Places for Found {
     #[inline]
-    pub(crate) fn found(&self) -> &Found {
+    fn name(&self) -> Place {
+        self.name
+    }
+
+    #[inline]
+    fn values(&self) -> Place {
+        self.values
+    }
+}
+
+impl Places for Found2009 {
+    #[inline]
+    fn name(&self) -> Place {
+        self.name
+    }
+
+    #[inline]
+    fn values(&self) -> Place {
+        self.values
+    }
+}
+
+/// What a reader found in a datagram, beside that datagram. Only `parse` and `parse_2009` make one and
+/// nobody changes it, so the places are those of this datagram.
+pub(crate) struct Reading<'a, F> {
+    datagram: &'a [u8],
+    found: F,
+}
+
+impl<'a, F: Places> Reading<'a, F> {
+    #[inline]
+    pub(crate) fn found(&self) -> &F {
         &self.found
     }
 
     #[inline]
     pub(crate) fn name(&self) -> &'a str {
-        // SAFETY: the places are those that the reader found in this datagram.
-        unsafe { name_at(self.datagram, self.found.name) }
+        // SAFETY: a reader takes a name only where it is well-formed UTF-8, the place is the one that it
+        // answered for this datagram, and the place of no name is empty.
+        unsafe { std::str::from_utf8_unchecked(part(self.datagram, self.found.name())) }
     }
 
     #[inline]
     pub(crate) fn values(&self) -> &'a [u8] {
-        part(self.datagram, self.found.values)
+        part(self.datagram, self.found.values())
     }
+}
 
+impl<'a> Reading<'a, Found> {
     #[inline]
     pub(crate) fn universes(&self) -> &'a [u8] {
         part(self.datagram, self.found.universes)
-    }
-}
-
-/// The same for the 2009 reader; only `parse_2009` makes one.
-pub(crate) struct Reading2009<'a> {
-    datagram: &'a [u8],
-    found: Found2009,
-}
-
-impl<'a> Reading2009<'a> {
-    #[inline]
-    pub(crate) fn found(&self) -> &Found2009 {
-        &self.found
-    }
-
-    #[inline]
-    pub(crate) fn name(&self) -> &'a str {
-        // SAFETY: the places are those that the reader found in this datagram.
-        unsafe { name_at(self.datagram, self.found.name) }
-    }
-
-    #[inline]
-    pub(crate) fn values(&self) -> &'a [u8] {
-        part(self.datagram, self.found.values)
     }
 }
 
@@ -227,30 +236,18 @@ fn part(datagram: &[u8], place: Place) -> &[u8] {
     &datagram[place.start..][..place.len]
 }
 
-/// The name at a place.
-///
-/// # Safety
-///
-/// The place is one that a reader answered as the name's for this datagram.
 #[inline]
-unsafe fn name_at(datagram: &[u8], place: Place) -> &str {
-    // SAFETY: a reader takes a name only where it is well-formed UTF-8, and the place of no name is
-    // empty.
-    unsafe { std::str::from_utf8_unchecked(part(datagram, place)) }
-}
-
-#[inline]
-pub(crate) fn parse(datagram: &[u8]) -> Reading<'_> {
+pub(crate) fn parse(datagram: &[u8]) -> Reading<'_, Found> {
     // SAFETY: pointer and length are one live slice's, which the call only reads.
     let found = unsafe { ledgerwren_parse(datagram.as_ptr(), datagram.len()) };
     Reading { datagram, found }
 }
 
 #[inline]
-pub(crate) fn parse_2009(datagram: &[u8]) -> Reading2009<'_> {
+pub(crate) fn parse_2009(datagram: &[u8]) -> Reading<'_, Found2009> {
     // SAFETY: pointer and length are one live slice's, which the call only reads.
     let found = unsafe { ledgerwren_parse_2009(datagram.as_ptr(), datagram.len()) };
-    Reading2009 { datagram, found }
+    Reading { datagram, found }
 }
 
 #[inline]

@@ -131,7 +131,7 @@ pub fn parse(datagram: &[u8]) -> Result<Packet<'_>, Refusal> {
 }
 
 #[inline]
-fn data<'a>(reading: &ffi::Reading<'a>) -> DataPacket<'a> {
+fn data<'a>(reading: &ffi::Reading<'a, ffi::Found>) -> DataPacket<'a> {
     let fields = &reading.found().data_fields;
     DataPacket {
         source_name: reading.name(),
@@ -147,7 +147,7 @@ fn data<'a>(reading: &ffi::Reading<'a>) -> DataPacket<'a> {
 }
 
 #[inline]
-fn synchronization(reading: &ffi::Reading<'_>) -> SynchronizationPacket {
+fn synchronization(reading: &ffi::Reading<'_, ffi::Found>) -> SynchronizationPacket {
     let fields = &reading.found().synchronization_fields;
     SynchronizationPacket {
         sequence_number: fields.sequence_number,
@@ -156,7 +156,7 @@ fn synchronization(reading: &ffi::Reading<'_>) -> SynchronizationPacket {
 }
 
 #[inline]
-fn discovery<'a>(reading: &ffi::Reading<'a>) -> UniverseDiscoveryPacket<'a> {
+fn discovery<'a>(reading: &ffi::Reading<'a, ffi::Found>) -> UniverseDiscoveryPacket<'a> {
     let fields = &reading.found().discovery_fields;
     UniverseDiscoveryPacket {
         source_name: reading.name(),

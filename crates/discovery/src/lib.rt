@@ -157,11 +157,9 @@ fn still_rising(rising: bool, last: u16, u: u16) -> bool
 
 // It looks at all neighbours, so that it compiles to wide comparisons.
 fn all_rise(universes: &[u16]) -> bool
+    requires { ⌜ 0 < length (now universes) ⌝ }
     ensures { λ r. ⌜ (r ≡ true → checkedOf (orderChecks (now (universes .entry))) ≡ Checked.Passed) ⌝ }
 {
-    if universes.len() == 0 {
-        return true;
-    }
     let mut rising = true;
     let mut i = 1;
     while i < universes.len() {

@@ -8,7 +8,7 @@ use lib.ListN.{length, take, drop, getD, length-drop}
 use lib.Seq.{getD-drop, length-take-le}
 use Rattle.refusal.specs.Check.{_=?_}
 use Rattle.refusal.proofs.Tests.{Holds, chosen, passed-over, decide}
-use Rattle.name.specs.Utf8.{within, leadOf, step, marked, reach, wholeChars}
+use Rattle.name.specs.Utf8.{within, leadOf, reach, wholeChars}
 use Rattle.name.specs.Plain.{plainRun}
 use Rattle.name.specs.Name.{zeroAt, textOf}
 use Rattle.name.specs.declared.utf8.Expect.the-variants.{Lead}

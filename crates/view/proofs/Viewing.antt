@@ -17,7 +17,7 @@ use types.Kit.{Given}
 use denote.RattleType.{RattleType}
 use denote.Laws.{Is}
 use denote.Builtin.{u8, SliceRefOf}
-use denote.Ref.{RefT, now}
+use denote.Ref.{now}
 use denote.Exit.{yes}
 use denote.Signature.{plain, namedLft}
 use denote.Slice.{sliceTy, ShrSlice, shr-slice-lawful}

@@ -6,9 +6,8 @@ use borrow.Author.Needs.{needs}
 use denote.Ref.{now}
 use lib.ListN.{length, drop, getD}
 use Rattle.refusal.specs.Check.{checkedOf}
-use Rattle.refusal.proofs.Laws.{none-checked}
 use Rattle.discovery.specs.Universes.{pairsFrom, rises, orderChecks}
-use Rattle.discovery.proofs.Laws.{pairs-none, pairs-first, pair-holds, pairs-end}
+use Rattle.discovery.proofs.Laws.{pair-holds, pairs-end, checked-all}
 use Rattle.discovery.proofs.all_rise.Statement.{statement}
 use Rattle.discovery.proofs.all_rise.Tie as tie
 
@@ -18,12 +17,8 @@ Inv-loop universes rising₀ i₀ rising i = (1 ≤ i) × (i ≤ length universe
 abbrev μ-loop : tie.MeasureT-loop
 μ-loop universes rising₀ i₀ rising i = length universes - i
 
-returns : tie.Need-returns Inv-loop μ-loop
-returns c = λ e. rw (pairs-none rises (now (c .before .before .args .universes)) (c .if1 .taken)) none-checked
-
 loop-holds : tie.Need-loop-holds Inv-loop μ-loop
-loop-holds c = let us = now (c .before .before .args .universes) in
-    (omega arith, omega arith, λ e. sym (rw (pairs-first rises us (c .if1 .left))))
+loop-holds c = (omega arith, omega arith, λ e. checked-all (now (c .before .args .universes)) (omega arith))
 
 sub-still-rising : tie.Need-sub-still-rising Inv-loop μ-loop
 sub-still-rising c = omega arith
@@ -52,7 +47,7 @@ loop-less c = omega arith
 loop-again : tie.Need-loop-again Inv-loop μ-loop
 loop-again c =
     let l = c .before .before .before .before in
-    let us = now (l .before .before .before .args .universes) in
+    let us = now (l .before .before .args .universes) in
     let i = l .loop .i in
     let k : i < length us = omega arith in
     let n : i + 1 - 1 ≡ i = omega arith in (
@@ -64,10 +59,10 @@ loop-again c =
           rw n (sym (pair-holds rises us (getD us (i - 1) 0) i k (omega arith)) ∙ l .loop .inv .2 (t .0)),
     )
 
-returns-2 : tie.Need-returns-2 Inv-loop μ-loop
-returns-2 c =
+returns : tie.Need-returns Inv-loop μ-loop
+returns c =
     let l = c .before in
-    let us = now (l .before .before .before .args .universes) in
+    let us = now (l .before .before .args .universes) in
     let k : length us ≤ l .loop .i = omega arith in
     λ e. sym (l .loop .inv .2 e) ∙ pairs-end rises us (getD us (l .loop .i - 1) 0) (l .loop .i) k
 
@@ -77,7 +72,6 @@ all-rise-spec =
     (tie.spec
     Inv-loop
     μ-loop
-    returns
     loop-holds
     sub-still-rising
     mul-still-rising
@@ -88,4 +82,4 @@ all-rise-spec =
     add-i
     loop-less
     loop-again
-    returns-2)
+    returns)

@@ -22,7 +22,7 @@ returns c = let us = now (c .before .before .args .universes) in
     sym (rw (pairs-none rises us (c .if1 .taken)) none-checked)
 
 all-rise-requires : tie.Need-all-rise-requires Inv-loop μ-loop
-all-rise-requires c κs = search needs
+all-rise-requires c κs = omega arith
 
 returns-2 : tie.Need-returns-2 Inv-loop μ-loop
 returns-2 c = sym (c .before .all-rise .ensures (c .if2 .taken))

@@ -4,7 +4,7 @@ use mathlib.Core.Path.{_≡_}
 use native.Mathlib.Omega.{arith}
 use borrow.Author.Needs.{needs}
 use denote.Ref.{now}
-use lib.ListN.{length, drop}
+use lib.ListN.{drop}
 use Rattle.name.specs.Plain.{plainRun}
 use Rattle.name.proofs.Runs.{block-more}
 use Rattle.name.proofs.plain.plain_block.Statement.{statement}
