@@ -2,7 +2,6 @@
 // them the line that the dump program would give the datagram.
 use entries::Next;
 use entries::State;
-use entries::Unread;
 ghost use Prim.Native.Nat.{_<_};
 
 const ENTRIES_A_CASE: u64 = 2;
@@ -32,15 +31,22 @@ fn turn(block: &mut [u8], entry: &mut [u8], out: &mut [u8], state: State, n: u64
 {
     let unread = state.unread;
     let at = state.at;
-    let step = entries::next_entry(block, entry, unread);
+    let step = entries::next_entry(block, entry, unread, state.heard);
     let next = step.next;
     match next {
         Next::Entry { len } => {
             let end = put_entry(out, at, n, wire::part(entry, 0, len));
-            entries::go_on(out, end, step.unread)
+            entries::go_on(out, end, step.unread, step.heard, state.wrote)
         }
-        Next::Stop(ending) => entries::finish(out, at, ending, n / ENTRIES_A_CASE),
-        Next::Failed => entries::give_up(out, at),
+        Next::Stop(ending) => entries::finish(
+            out,
+            at,
+            ending,
+            n / ENTRIES_A_CASE,
+            step.heard,
+            state.wrote,
+        ),
+        Next::Failed => entries::give_up(out, at, step.heard, state.wrote),
     }
 }
 
@@ -48,11 +54,7 @@ fn main() {
     let mut block = [0; BLOCK];
     let mut entry = [0; LONGEST_ENTRY];
     let mut out = [0; BLOCK];
-    let mut state = State {
-        unread: Unread { start: 0, len: 0 },
-        at: 0,
-        going: true,
-    };
+    let mut state = entries::begin();
     let mut n = 0;
     while state.going && n < MOST_ENTRIES {
         state = turn(&mut block, &mut entry, &mut out, state, n);

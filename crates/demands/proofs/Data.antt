@@ -6,6 +6,7 @@ use mathlib.Core.List.{List, [], _∷_, _++_, append-assoc, append-nil}
 use native.Mathlib.Omega.{arith}
 use lib.ListN.{length, take, drop, getD, length-append, length-drop}
 use lib.Seq.{take-at, getD-take, getD-drop, drop-drop, length-take-le}
+use Rattle.wire.specs.Bytes.{Bytes}
 use Rattle.wire.specs.Fields.{partOf, be16, join}
 use Rattle.refusal.specs.Check.{_≤?_}
 use Rattle.refusal.proofs.Tests.{chosen}
@@ -24,7 +25,7 @@ use Rattle.pack.specs.Writing.{rootHead, countCheck, dataWriteChecks, dataLengt
 use Rattle.pack.specs.declared.Packed.the-variants.{Length, Refused}
 use Rattle.pack.proofs.Writing.{data-long}
 use Rattle.demands.specs.Content.{dataContent, contentOf, meaning}
-use Rattle.demands.specs.Limits.{Bytes, ReadableData}
+use Rattle.demands.specs.Limits.{ReadableData}
 use Rattle.demands.specs.Ignored.{AlikeData}
 use Rattle.demands.proofs.Root.{root-cid, root-data}
 use Rattle.demands.proofs.Names.{Named, named-written, named-alike, named-same}

@@ -9,6 +9,8 @@ use borrow.Author.Tests.{eqb-true, eqb-false}
 use lib.ListN.{length, drop, getD, length-append, length-drop, take-append-drop}
 use lib.Seq.{take-at, drop-at, take-all, getD-drop, drop-drop}
 use lib.Dec.{eqb}
+use Rattle.wire.specs.Bytes.{Bytes}
+use Rattle.wire.proofs.Bytes.{bytes-drop}
 use Rattle.wire.specs.Fields.{byteAt, u16At, u32At, be16, be32, join}
 use Rattle.refusal.specs.Check.{framing}
 use Rattle.refusal.proofs.Laws.{All, all-hold, all-++, all-front, all-back}
@@ -23,8 +25,8 @@ use Rattle.framing.specs.declared.Edition.the-variants.{E2018}
 use Rattle.framing.specs.declared.data.DataFields.{DataFields}
 use Rattle.packet.specs.Packet.{place, dataRecord, dataPacketOf}
 use Rattle.packet.specs.declared.Packet.the-variants.{Data, Refused}
-use Rattle.demands.specs.Limits.{Bytes, ReadableName}
-use Rattle.demands.proofs.Segments.{cuts, join-cuts, field8, field16, field32, bytes-drop, flags-back, be16-back}
+use Rattle.demands.specs.Limits.{ReadableName}
+use Rattle.demands.proofs.Segments.{cuts, join-cuts, field8, field16, field32, flags-back, be16-back}
 use Rattle.demands.proofs.Root.{rooted}
 use Rattle.demands.proofs.Names.{Named, named-ends, named-checks}
 

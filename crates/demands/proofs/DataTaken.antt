@@ -6,6 +6,8 @@ use mathlib.Core.List.{List, [], _++_, append-nil}
 use native.Mathlib.Omega.{arith}
 use lib.ListN.{length, take, drop, length-take, length-drop}
 use lib.Seq.{take-all, take-take, drop-drop, length-take-le}
+use Rattle.wire.specs.Bytes.{Bytes}
+use Rattle.wire.proofs.Bytes.{bytes-drop}
 use Rattle.wire.specs.Fields.{byteAt, partOf}
 use Rattle.refusal.specs.Check.{_≤?_, _=?_}
 use Rattle.refusal.proofs.Tests.{chosen, passed-over, choice, decide}
@@ -26,8 +28,6 @@ use Rattle.packet.specs.declared.DataRecord.{DataRecord}
 use Rattle.packet.specs.declared.Packet.{Packet}
 use Rattle.packet.specs.declared.Packet.the-variants.{Data, Synchronization, Discovery, Refused}
 use Rattle.demands.specs.Content.{dataContent, contentOf, meaning}
-use Rattle.demands.specs.Limits.{Bytes}
-use Rattle.demands.proofs.Segments.{bytes-drop}
 use Rattle.demands.proofs.Root.{Rooted, rooted, only-root, rest-framing}
 use Rattle.demands.proofs.Names.{Named, named-found}
 use Rattle.demands.proofs.DataLayer.{frameWith, Variant, name-of, only-frame}

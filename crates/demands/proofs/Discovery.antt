@@ -4,6 +4,7 @@ use mathlib.Core.Path.{_≡_, refl, sym, ap, _∙_}
 use mathlib.Core.List.{List, [], _∷_, _++_, append-nil}
 use native.Mathlib.Omega.{arith}
 use lib.ListN.{length, drop}
+use Rattle.wire.specs.Bytes.{Bytes}
 use Rattle.wire.specs.Fields.{be32}
 use Rattle.wire.proofs.Laws.{sets-front}
 use Rattle.refusal.specs.Check.{check, refusal, nowhere, _≤?_}
@@ -19,7 +20,7 @@ use Rattle.pack.specs.Writing.{discoveryBytes, discoveryLength, discoveryWriteC
 use Rattle.pack.specs.declared.Packed.the-variants.{Length, Refused}
 use Rattle.demands.specs.Content.{discoveryContent, meaning}
 use Rattle.demands.specs.Ignored.{AlikeDiscovery}
-use Rattle.demands.specs.Limits.{Bytes, ReadableDiscovery}
+use Rattle.demands.specs.Limits.{ReadableDiscovery}
 use Rattle.demands.proofs.Names.{named-written}
 use Rattle.demands.proofs.Meaning.{discovery-meant}
 use Rattle.demands.proofs.DiscoveryLayers.{recordWith}

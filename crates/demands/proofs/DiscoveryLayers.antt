@@ -5,6 +5,8 @@ use mathlib.Core.List.{List, [], _∷_, _++_, append-assoc, append-nil}
 use native.Mathlib.Omega.{arith}
 use lib.ListN.{length, take, drop, length-append, length-drop, take-append-drop}
 use lib.Seq.{take-at, drop-at, take-all}
+use Rattle.wire.specs.Bytes.{Bytes, Words}
+use Rattle.wire.proofs.Bytes.{bytes-drop}
 use Rattle.wire.specs.Fields.{byteAt, u16At, u32At}
 use Rattle.refusal.specs.Check.{_=?_, choose, framing, discovery}
 use Rattle.refusal.proofs.Tests.{passed-over}
@@ -24,10 +26,10 @@ use Rattle.extended.specs.Extended.{kindChecks, extendedChecks}
 use Rattle.packet.specs.declared.Packet.{Packet}
 use Rattle.packet.specs.declared.Packet.the-variants.{Discovery, Refused}
 use Rattle.packet.specs.Packet.{place, extendedRecord, extendedPacketOf}
-use Rattle.demands.specs.Limits.{Bytes, Words, ReadableDiscovery}
+use Rattle.demands.specs.Limits.{ReadableDiscovery}
 use Rattle.demands.proofs.Names.{Named, named-ends, named-checks}
 use Rattle.demands.proofs.UniverseLists.{listed-back, bytes-back}
-use Rattle.demands.proofs.Segments.{bytes-drop, join-cuts, field8}
+use Rattle.demands.proofs.Segments.{join-cuts, field8}
 use Rattle.demands.proofs.Extended.{head-bytes}
 
 -- how a layer starts: its flags, its length, its vector, and as many bytes as it says

@@ -6,6 +6,8 @@ use mathlib.Core.List.{List, _∷_, _++_}
 use native.Mathlib.Omega.{arith}
 use lib.ListN.{length, take, drop, length-take, length-drop}
 use lib.Seq.{take-all, take-take, drop-drop, length-take-le}
+use Rattle.wire.specs.Bytes.{Bytes}
+use Rattle.wire.proofs.Bytes.{bytes-drop}
 use Rattle.wire.specs.Fields.{byteAt}
 use Rattle.refusal.specs.Check.{framing, discovery}
 use Rattle.refusal.proofs.Laws.{All, all-front, all-back}
@@ -28,8 +30,6 @@ use Rattle.packet.specs.declared.DiscoveryRecord.{DiscoveryRecord}
 use Rattle.packet.specs.declared.Packet.the-variants.{Discovery}
 use Rattle.pack.specs.Writing.{discoveryBytes, discoveryLength}
 use Rattle.demands.specs.Ignored.{AlikeDiscovery}
-use Rattle.demands.specs.Limits.{Bytes}
-use Rattle.demands.proofs.Segments.{bytes-drop}
 use Rattle.demands.proofs.Root.{Rooted, only-root, rest-framing}
 use Rattle.demands.proofs.Names.{Named, named-found}
 use Rattle.demands.proofs.Extended.{rooted-by, extended-says, discovery-says}

@@ -4,19 +4,17 @@ use Prim.Native.Nat.{ℕ}
 use mathlib.Core.Path.{_≡_}
 use mathlib.Core.List.{List}
 use lib.ListN.{length}
+use Rattle.wire.specs.Bytes.{Bytes}
 use Rattle.discovery.specs.declared.DiscoveryFields.{DiscoveryFields}
 use Rattle.framing.specs.declared.data.DataFields.{DataFields}
 use Rattle.extended.specs.declared.synchronization.SynchronizationFields.{SynchronizationFields}
 use Rattle.pack.specs.Writing.{dataBytes, dataLength, synchronizationBytes, synchronizationLength, discoveryBytes, discoveryLength}
 use Rattle.demands.specs.Content.{dataContent, synchronizationContent, discoveryContent, meaning}
-use Rattle.demands.specs.Limits.{Bytes, ReadableData, ReadableSynchronization, ReadableDiscovery}
+use Rattle.demands.specs.Limits.{Iff, ReadableData, ReadableSynchronization, ReadableDiscovery}
 use Rattle.demands.specs.Ignored.{AlikeData, AlikeSynchronization, AlikeDiscovery}
 use Rattle.demands.proofs.Data.{ignored-data, nothing-else-data}
 use Rattle.demands.proofs.Synchronization.{ignored-synchronization, nothing-else-synchronization}
 use Rattle.demands.proofs.Discovery.{ignored-discovery, nothing-else-discovery}
-
-abbrev Iff : Type 0 → Type 0 → Type 0
-Iff A B = (A → B) × (B → A)
 
 module _ (cid d : List ℕ) (b : Bytes d) where
   pub exactly-data : (f : DataFields) (name values : List ℕ) → ReadableData cid f name values → length d ≡ dataLength values →

@@ -5,6 +5,7 @@ use mathlib.Core.List.{List, _++_}
 use native.Mathlib.Omega.{arith}
 use lib.ListN.{take, length}
 use lib.Seq.{take-add}
+use Rattle.wire.specs.Bytes.{Bytes}
 use Rattle.wire.specs.Fields.{u16At}
 use Rattle.refusal.specs.declared.Refusal.{Refusal}
 use Rattle.refusal.specs.Check.{Test, Check, _=?_, _or_, choose, root, framing}
@@ -24,7 +25,6 @@ use Rattle.packet.specs.declared.DiscoveryRecord.{DiscoveryRecord}
 use Rattle.packet.specs.declared.Packet.{Packet}
 use Rattle.packet.specs.declared.Packet.the-variants.{Data, Synchronization, Discovery, Refused}
 use Rattle.packet.specs.Packet.{rootVector, framingPart, framingChecks, packetChecks, recordOf, dataRecord, synchronizationRecord, discoveryRecord, extendedRecord, packetOf}
-use Rattle.demands.specs.Limits.{Bytes}
 use Rattle.demands.proofs.Segments.{field16, field32, flags-back}
 use Rattle.demands.proofs.Root.{Rooted, rooted}
 

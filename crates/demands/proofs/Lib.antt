@@ -1,4 +1,5 @@
 pub mod Edges
+pub mod Limits
 pub mod Untouched
 pub mod Segments
 pub mod Root
@@ -17,8 +18,13 @@ pub mod DiscoveryPackets
 pub mod DiscoveryOnly
 pub mod Discovery
 pub mod Edition2009
+pub mod Contracts
+pub mod Places
+pub mod Laid
+pub mod Unlooked
 pub mod Settled
 pub mod SettledText
+pub mod SettledSystem
 pub mod SettledEdge
 pub mod Exactly
 pub mod Definitions

@@ -1,5 +1,5 @@
 -- Fields that hold a name: 64 bytes that start with the name's and a zero. Assumes nothing.
-use Prim.Native.Nat.{ℕ, suc, _+_, _-_, _≤_, _<_}
+use Prim.Native.Nat.{ℕ, zero, suc, _+_, _-_, _≤_, _<_}
 use mathlib.Core.Path.{_≡_, refl, sym, ap, _∙_}
 use mathlib.Core.List.{List, [], _∷_, _++_}
 use native.Mathlib.Omega.{arith}
@@ -20,7 +20,7 @@ pub record Named (field name : List ℕ) : Type 0 where
   pub stop : getD field (length name) 0 ≡ 0
 
 -- the first zero of a list that has one
-zero-is : (s : List ℕ) → zeroAt s < length s → getD s (zeroAt s) 0 ≡ 0
+pub zero-is : (s : List ℕ) → zeroAt s < length s → getD s (zeroAt s) 0 ≡ 0
 unfolding zeroAt
 zero-is [] h = absurd (omega arith)
 zero-is (b ∷ s) h =
@@ -28,6 +28,15 @@ zero-is (b ∷ s) h =
     (λ f.
     let p : suc (zeroAt s) ≡ choose (b =? 0) 0 (suc (zeroAt s)) = passed-over (b =? 0) 0 (suc (zeroAt s)) f refl in
     ap (λ (k : ℕ). getD (b ∷ s) k 0) (sym p) ∙ zero-is s (omega arith))
+
+-- and no byte before it is one
+pub before-zero : (s : List ℕ) (i : ℕ) → i < zeroAt s → getD s i 0 ≡ 0 → ⊥
+unfolding zeroAt
+before-zero [] i h e = omega arith
+before-zero (b ∷ s) zero h e = omega (arith, chosen (b =? 0) 0 (suc (zeroAt s)) e refl)
+before-zero (b ∷ s) (suc i) h e =
+    decide (b =? 0) (λ z. omega (arith, chosen (b =? 0) 0 (suc (zeroAt s)) z refl))
+    (λ f. before-zero s i (omega (arith, passed-over (b =? 0) 0 (suc (zeroAt s)) f refl)) e)
 
 -- a name as it is written
 pub named-written : (name : List ℕ) → length name ≤ 63 → Named (nameBytes name) name

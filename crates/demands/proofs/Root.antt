@@ -6,6 +6,8 @@ use mathlib.Core.List.{List, [], _∷_, _++_}
 use native.Mathlib.Omega.{arith}
 use lib.ListN.{length, take, drop, length-append, length-drop, take-append-drop}
 use lib.Seq.{take-at, drop-at, take-all, drop-drop}
+use Rattle.wire.specs.Bytes.{Bytes}
+use Rattle.wire.proofs.Bytes.{bytes-drop}
 use Rattle.wire.specs.Fields.{u16At, u32At, be16, be32, join}
 use Rattle.wire.proofs.Laws.{u16-drop}
 use Rattle.refusal.specs.Check.{_=?_, _or_}
@@ -19,8 +21,7 @@ use Rattle.root.proofs.Laws.{within}
 use Rattle.packet.specs.Packet.{rootVector, framingPart, cidOf, packetOf, dataPacketOf, extendedPacketOf}
 use Rattle.packet.proofs.Laws.{afterRoot, by-root}
 use Rattle.pack.specs.Writing.{rootHead}
-use Rattle.demands.specs.Limits.{Bytes}
-use Rattle.demands.proofs.Segments.{cuts, join-cuts, field16, field32, u32-drop, bytes-drop, flags-back}
+use Rattle.demands.proofs.Segments.{cuts, join-cuts, field16, field32, u32-drop, flags-back}
 
 -- the checks of preamble and root all hold
 abbrev pub Rooted : List ℕ → Type 0

@@ -7,15 +7,12 @@ use native.Mathlib.Nat.{add-zero, add-assoc}
 use native.Mathlib.Omega.{arith}
 use lib.ListN.{length, take, drop, getD, length-drop, List·getD-append}
 use lib.Seq.{take-add, getD-take, getD-drop, drop-drop, length-take-le, ext-getD, getD-append-add}
+use Rattle.wire.specs.Bytes.{Bytes}
+use Rattle.wire.proofs.Bytes.{bytes-drop}
 use Rattle.wire.specs.Fields.{byteAt, u16At, u32At, be16, be32, join}
 use Rattle.refusal.specs.Check.{_≤?_}
 use Rattle.refusal.proofs.Tests.{decide}
 use Rattle.pdu.specs.Head.{flagsOf, lengthOf, flagsField}
-use Rattle.demands.specs.Limits.{Bytes}
-
--- the rest of bytes is bytes
-pub bytes-drop : (n : ℕ) (l : List ℕ) → Bytes l → Bytes (drop n l)
-bytes-drop n l b i = rw getD-drop (b (n + i))
 
 -- the segments of these widths from place i on, and joined
 abbrev pub total : List ℕ → ℕ
@@ -84,6 +81,10 @@ pub flags-back : (p : List ℕ) → Bytes p → flagsOf p ≡ 0x70 → u16At p 0
 unfolding u16At
 flags-back p b h = omega (arith, b 0, b 1)
 
+-- a segment's bytes, by their place in the list
+pub cut-at : (i w : ℕ) (l : List ℕ) (k : ℕ) → k < w → getD (take w (drop i l)) k 0 ≡ getD l (i + k) 0
+cut-at i w l k h = getD-take w (drop i l) k 0 h ∙ getD-drop i l k 0
+
 -- two lists that agree at the places of a segment have the same segment there
 pub same-cut : (i w : ℕ) (l m : List ℕ) → i + w ≤ length l → i + w ≤ length m →
     ((k : ℕ) → i ≤ k → k < i + w → getD l k 0 ≡ getD m k 0) → take w (drop i l) ≡ take w (drop i m)
@@ -93,7 +94,7 @@ same-cut i w l m h g e =
     ext-getD 0 (take w (drop i l)) (take w (drop i m)) (p ∙ sym q)
     (λ k r.
     let t : k < w = omega arith in
-    rw (getD-take w (drop i l) k 0 t, getD-take w (drop i m) k 0 t, getD-drop i l k 0, getD-drop i m k 0) (e (i + k) (omega arith) (omega arith)))
+    cut-at i w l k t ∙ e (i + k) (omega arith) (omega arith) ∙ sym (cut-at i w m k t))
 
 -- and what starts with one segment or another agrees where these do, or what follows them does
 pub same-at : (s t x y : List ℕ) (i : ℕ) → length s ≡ length t → (i < length s → getD s i 0 ≡ getD t i 0) →

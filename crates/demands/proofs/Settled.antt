@@ -1,210 +1,174 @@
--- Demand 1: for every public call of every library, two results that satisfy its contract are equal, and so are two buffers at exit. Each line
--- names what the call's contract says its answer is, and for a lent buffer what it holds afterwards. Assumes nothing.
-use Prim.Native.Nat.{ℕ}
-use mathlib.Core.Path.{_≡_, sym, ap, _∙_}
-use mathlib.Core.List.{List}
-use lib.ListN.{length, replicate}
-use lib.Seq.{sets}
-use Rattle.refusal.specs.Check.{refusal, checkedOf}
-use Rattle.wire.specs.Fields.{byteAt, u16At, u32At, partOf, be16, be32}
-use Rattle.universe.specs.Universe.{universeChecks, multicastOf}
-use Rattle.name.specs.Utf8.{wholeChars}
-use Rattle.name.specs.Name.{sourceNameOf, writtenNameChecks, nameBytes}
-use Rattle.pdu.specs.Head.{infoOf, flagsField}
-use Rattle.pdu.specs.declared.VectorLength.{VectorLength}
-use Rattle.dmp.specs.Layer.{dmpOf, dmpBytes}
-use Rattle.discovery.specs.Universes.{allUniverses, orderChecks}
-use Rattle.discovery.specs.Layer as discoveryLayer
-use Rattle.discovery.specs.declared.DiscoveryFields.{DiscoveryFields}
-use Rattle.framing.specs.Bytes.{framingHead, dataFramingBytes}
-use Rattle.framing.specs.Data.{dataOf, fieldsOf}
-use Rattle.framing.specs.declared.Edition.{Edition}
-use Rattle.framing.specs.declared.data.DataFields.{DataFields}
-use Rattle.extended.specs.Bytes.{synchronizationFramingBytes, discoveryFramingBytes}
-use Rattle.extended.specs.Synchronization.{synchronizationOf}
-use Rattle.extended.specs.UniverseDiscovery.{discoveryFramingOf}
-use Rattle.extended.specs.Extended.{extendedOf}
-use Rattle.extended.specs.declared.synchronization.SynchronizationFields.{SynchronizationFields}
-use Rattle.root.specs.Root.{rootOf}
-use Rattle.packet.specs.Packet.{cidIn, packetOf, readingOf}
-use Rattle.parts.specs.Parts.{shownAt, namePlace, valuesPlace, copiedOf, universesIn, afterCopy}
-use Rattle.packet.specs.declared.Place.{Place}
-use Rattle.packet.specs.declared.Reading.{Reading}
-use Rattle.parts.specs.declared.Copied.{Copied}
-use Rattle.pack.specs.Writing.{dataBytes, synchronizationBytes, discoveryBytes, dataLength, synchronizationLength, discoveryLength, dataWriteChecks, synchronizationWriteChecks, discoveryWriteChecks, packedOf, afterPack}
-use Rattle.pack.specs.declared.Packed.{Packed}
-use Rattle.edition2009.specs.Packet.{reading2009Of}
-use Rattle.edition2009.specs.Parts as old
-use Rattle.edition2009.specs.declared.Reading2009.{Reading2009}
-
--- two results that are both `answer`
-abbrev pub Settled : {A : Type 0} → A → Type 0
-Settled {A} answer = (r s : A) → r ≡ answer → s ≡ answer → r ≡ s
-
--- two results that are both `answer`, and two buffers that are both what the result leaves
-abbrev pub SettledWith : {A : Type 0} → A → (A → List ℕ) → Type 0
-SettledWith {A} answer after =
-    (r s : A) (b c : List ℕ) → r ≡ answer → b ≡ after r → s ≡ answer → c ≡ after s → (r ≡ s) × (b ≡ c)
-
-settled : {A : Type 0} {answer : A} → Settled answer
-settled r s e f = e ∙ sym f
-
-settled-with : {A : Type 0} {answer : A} (after : A → List ℕ) → SettledWith answer after
-settled-with after r s b c e x f y =
-    let same : r ≡ s = e ∙ sym f in
-    (same, x ∙ ap after same ∙ sym y)
+-- Demand 1 for the calls that read and write packets: two results that satisfy a call's contract are equal, of a returned part its bytes, and so are
+-- two buffers at exit. Each line names the call, and its contract is what the kit made of the call's own `ensures`. `SettledText`, `SettledEdge` and
+-- `SettledSystem` have the other libraries' calls. Assumes nothing.
+use denote.Ref.{now}
+use Rattle.refusal.proofs as Refusal
+use Rattle.wire.proofs as Wire
+use Rattle.universe.proofs as Universe
+use Rattle.name.proofs as Name
+use Rattle.pdu.proofs as Pdu
+use Rattle.dmp.proofs as Dmp
+use Rattle.discovery.proofs as Discovery
+use Rattle.framing.proofs as Framing
+use Rattle.extended.proofs as Extended
+use Rattle.root.proofs as Root
+use Rattle.packet.proofs as Packet
+use Rattle.parts.proofs as Parts
+use Rattle.pack.proofs as Pack
+use Rattle.edition2009.proofs as Edition2009
+use Rattle.demands.proofs.Contracts.{Settled, settled, SettledAs, settled-as, SettledWith, settled-with}
 
 -- refusal
-pub new : (n p v : ℕ) → Settled (refusal n p v)
-new n p v = settled
+pub new : Settled Refusal.Refusal.new.Reads.Learnt
+new = settled (λ k a r e p. p)
 
 -- wire
-module _ (s : List ℕ) (at : ℕ) where
-  pub byte-at : Settled (byteAt s at)
-  byte-at = settled
+pub byte-at : Settled Wire.byte_at.Reads.Learnt
+byte-at = settled (λ k a r e p. p)
 
-  pub u16-at : Settled (u16At s at)
-  u16-at = settled
+pub u16-at : Settled Wire.u16_at.Reads.Learnt
+u16-at = settled (λ k a r e p. p)
 
-  pub u32-at : Settled (u32At s at)
-  u32-at = settled
+pub u32-at : Settled Wire.u32_at.Reads.Learnt
+u32-at = settled (λ k a r e p. p)
 
-  pub part : (len : ℕ) → Settled (partOf s at len)
-  part len = settled
+pub part : SettledAs Wire.part.Reads.Learnt (λ k r e. now r)
+part = settled-as (λ k a r e p. p)
 
-  pub copy : (src : List ℕ) → Settled (sets s at src)
-  copy src = settled
+pub copy : SettledAs Wire.copy.Reads.Learnt (λ k r e. now (e .0))
+copy = settled-as (λ k a r e p. p)
 
-  pub zeros : (n : ℕ) → Settled (sets s at (replicate n 0))
-  zeros n = settled
+pub zeros : SettledAs Wire.zeros.Reads.Learnt (λ k r e. now (e .0))
+zeros = settled-as (λ k a r e p. p)
 
-  pub put-u16 : (v : ℕ) → Settled (sets s at (be16 v))
-  put-u16 v = settled
+pub put-u16 : SettledAs Wire.put_u16.Reads.Learnt (λ k r e. now (e .0))
+put-u16 = settled-as (λ k a r e p. p)
 
-  pub put-u32 : (v : ℕ) → Settled (sets s at (be32 v))
-  put-u32 v = settled
+pub put-u32 : SettledAs Wire.put_u32.Reads.Learnt (λ k r e. now (e .0))
+put-u32 = settled-as (λ k a r e p. p)
 
 -- universe
-pub is-universe-in-range : (u : ℕ) → Settled (checkedOf (universeChecks u))
-is-universe-in-range u = settled
+pub is-universe-in-range : Settled Universe.is_universe_in_range.Reads.Learnt
+is-universe-in-range = settled (λ k a r e p. p)
 
-pub universe-to-ipv4-multicast-addr : (u : ℕ) → Settled (multicastOf u)
-universe-to-ipv4-multicast-addr u = settled
+pub universe-to-ipv4-multicast-addr : Settled Universe.universe_to_ipv4_multicast_addr.Reads.Learnt
+universe-to-ipv4-multicast-addr = settled (λ k a r e p. p)
 
 -- name
-module _ (name : List ℕ) where
-  pub whole-characters : Settled (wholeChars name)
-  whole-characters = settled
+pub whole-characters : Settled Name.whole_characters.Reads.Learnt
+whole-characters = settled (λ k a r e p. p)
 
-  pub parse-source-name-str : Settled (sourceNameOf name)
-  parse-source-name-str = settled
+pub parse-source-name-str : Settled Name.parse_source_name_str.Reads.Learnt
+parse-source-name-str = settled (λ k a r e p. p)
 
-  pub check-source-name : Settled (checkedOf (writtenNameChecks name))
-  check-source-name = settled
+pub check-source-name : Settled Name.check_source_name.Reads.Learnt
+check-source-name = settled (λ k a r e p. p)
 
-  pub pack-source-name : (buf : List ℕ) (at : ℕ) → Settled (sets buf at (nameBytes name))
-  pack-source-name buf at = settled
+pub pack-source-name : SettledAs Name.pack_source_name.Reads.Learnt (λ k r e. now (e .0))
+pack-source-name = settled-as (λ k a r e p. p)
 
 -- pdu
-pub pdu-info : (n : VectorLength) (place : ℕ) (p : List ℕ) → Settled (infoOf n place p)
-pdu-info n place p = settled
+pub pdu-info : Settled Pdu.pdu_info.Reads.Learnt
+pdu-info = settled (λ k a r e p. p)
 
-pub flags-and-length : (n : ℕ) → Settled (flagsField n)
-flags-and-length n = settled
+pub flags-and-length : Settled Pdu.flags_and_length.Reads.Learnt
+flags-and-length = settled (λ k a r e p. p)
 
--- the layers, read and written
-module _ (p buf : List ℕ) (at : ℕ) where
-  pub dmp-parse : Settled (dmpOf p)
-  dmp-parse = settled
+-- dmp
+pub dmp-parse : Settled Dmp.parse.Reads.Learnt
+dmp-parse = settled (λ k a r e p. p)
 
-  pub dmp-pack : (values : List ℕ) → Settled (sets buf at (dmpBytes values))
-  dmp-pack values = settled
+pub dmp-pack : SettledAs Dmp.pack.Reads.Learnt (λ k r e. now (e .0))
+dmp-pack = settled-as (λ k a r e p. p)
 
-  pub discovery-parse : Settled (discoveryLayer.discoveryOf p)
-  discovery-parse = settled
+-- discovery
+pub discovery-parse : Settled Discovery.parse.Reads.Learnt
+discovery-parse = settled (λ k a r e p. p)
 
-  pub discovery-copy-universes : Settled (sets buf 0 (allUniverses p))
-  discovery-copy-universes = settled
+pub discovery-copy-universes : SettledAs Discovery.copy_universes.Reads.Learnt (λ k r e. now (e .1 .0))
+discovery-copy-universes = settled-as (λ k a r e p. p)
 
-  pub discovery-check-order : Settled (checkedOf (orderChecks p))
-  discovery-check-order = settled
+pub discovery-check-order : Settled Discovery.check_order.Reads.Learnt
+discovery-check-order = settled (λ k a r e p. p)
 
-  pub discovery-pack : (f : DiscoveryFields) (us : List ℕ) → Settled (sets buf at (discoveryLayer.discoveryBytes f us))
-  discovery-pack f us = settled
+pub discovery-pack : SettledAs Discovery.pack.Reads.Learnt (λ k r e. now (e .0))
+discovery-pack = settled-as (λ k a r e p. p)
 
-  pub put-head : (len vector : ℕ) → Settled (sets buf at (framingHead len vector))
-  put-head len vector = settled
+-- framing
+pub put-head : SettledAs Framing.put_head.Reads.Learnt (λ k r e. now (e .0))
+put-head = settled-as (λ k a r e p. p)
 
-  pub data-parse : (edition : Edition) → Settled (dataOf edition p)
-  data-parse edition = settled
+pub data-parse : Settled Framing.data.parse.Reads.Learnt
+data-parse = settled (λ k a r e p. p)
 
-  pub data-fields : Settled (fieldsOf p)
-  data-fields = settled
+pub data-fields : Settled Framing.data.fields.Reads.Learnt
+data-fields = settled (λ k a r e p. p)
 
-  pub data-pack : (f : DataFields) (name values : List ℕ) → Settled (sets buf at (dataFramingBytes f name values))
-  data-pack f name values = settled
+pub data-pack : SettledAs Framing.data.pack.Reads.Learnt (λ k r e. now (e .0))
+data-pack = settled-as (λ k a r e p. p)
 
-  pub synchronization-parse : (len : ℕ) → Settled (synchronizationOf p len)
-  synchronization-parse len = settled
+-- extended
+pub synchronization-parse : Settled Extended.synchronization.parse.Reads.Learnt
+synchronization-parse = settled (λ k a r e p. p)
 
-  pub synchronization-pack : (f : SynchronizationFields) → Settled (sets buf at (synchronizationFramingBytes f))
-  synchronization-pack f = settled
+pub synchronization-pack : SettledAs Extended.synchronization.pack.Reads.Learnt (λ k r e. now (e .0))
+synchronization-pack = settled-as (λ k a r e p. p)
 
-  pub universe-discovery-parse : (len : ℕ) → Settled (discoveryFramingOf p len)
-  universe-discovery-parse len = settled
+pub universe-discovery-parse : Settled Extended.universe_discovery.parse.Reads.Learnt
+universe-discovery-parse = settled (λ k a r e p. p)
 
-  pub universe-discovery-pack : (f : DiscoveryFields) (name us : List ℕ) → Settled (sets buf at (discoveryFramingBytes f name us))
-  universe-discovery-pack f name us = settled
+pub universe-discovery-pack : SettledAs Extended.universe_discovery.pack.Reads.Learnt (λ k r e. now (e .0))
+universe-discovery-pack = settled-as (λ k a r e p. p)
 
-  pub extended-parse : (whole : ℕ) → Settled (extendedOf whole p)
-  extended-parse whole = settled
+pub extended-parse : Settled Extended.parse.Reads.Learnt
+extended-parse = settled (λ k a r e p. p)
 
--- whole datagrams, read and written
-module _ (d : List ℕ) where
-  pub root-parse : (edition : Edition) → Settled (rootOf edition d)
-  root-parse edition = settled
+-- root
+pub root-parse : Settled Root.parse.Reads.Learnt
+root-parse = settled (λ k a r e p. p)
 
-  pub parse : Settled (readingOf d)
-  parse = settled
+-- packet
+pub parse-packet : Settled Packet.parse_packet.Reads.Learnt
+parse-packet = settled (λ k a r e p. p)
 
-  pub parse-packet : Settled (packetOf d)
-  parse-packet = settled
+pub cid : Settled Packet.cid.Reads.Learnt
+cid = settled (λ k a r e p. p)
 
-  pub cid : Settled (cidIn d)
-  cid = settled
+pub parse : Settled Packet.parse.Reads.Learnt
+parse = settled (λ k a r e p. p)
 
-  pub shown : (place : Place) → Settled (shownAt d place)
-  shown place = settled
+-- parts
+pub shown : SettledAs Parts.shown.Reads.Learnt (λ k r e. now r)
+shown = settled-as (λ k a r e p. p)
 
-  pub name : (r : Reading) → Settled (shownAt d (namePlace (r .packet)))
-  name r = settled
+pub places-in : Settled Parts.places_in.Reads.Learnt
+places-in = settled (λ k a r e p. p)
 
-  pub values : (r : Reading) → Settled (shownAt d (valuesPlace (r .packet)))
-  values r = settled
+pub name : SettledAs Parts.name.Reads.Learnt (λ k r e. now r)
+name = settled-as (λ k a r e p. p)
 
-  pub copy-universes : (out : List ℕ) → SettledWith (copiedOf (packetOf d) (length out)) (λ (r : Copied). afterCopy r (universesIn d) out)
-  copy-universes out = settled-with (λ (r : Copied). afterCopy r (universesIn d) out)
+pub values : SettledAs Parts.values.Reads.Learnt (λ k r e. now r)
+values = settled-as (λ k a r e p. p)
 
-module _ (buf cid : List ℕ) where
-  pub pack-data : (f : DataFields) (name values : List ℕ) →
-      SettledWith (packedOf (dataWriteChecks (length buf) name values) (dataLength values)) (λ (r : Packed). afterPack r (dataBytes cid f name values) buf)
-  pack-data f name values = settled-with (λ (r : Packed). afterPack r (dataBytes cid f name values) buf)
+pub copy-universes : SettledWith Parts.copy_universes.Reads.Learnt (λ k e. now (e .1 .0))
+copy-universes = settled-with (λ k a r e p. p)
 
-  pub pack-synchronization : (f : SynchronizationFields) →
-      SettledWith (packedOf (synchronizationWriteChecks (length buf)) synchronizationLength) (λ (r : Packed). afterPack r (synchronizationBytes cid f) buf)
-  pack-synchronization f = settled-with (λ (r : Packed). afterPack r (synchronizationBytes cid f) buf)
+-- pack
+pub pack-data : SettledWith Pack.pack_data.Reads.Learnt (λ k e. now (e .0))
+pack-data = settled-with (λ k a r e p. p)
 
-  pub pack-discovery : (f : DiscoveryFields) (name us : List ℕ) →
-      SettledWith (packedOf (discoveryWriteChecks (length buf) name us) (discoveryLength us)) (λ (r : Packed). afterPack r (discoveryBytes cid f name us) buf)
-  pack-discovery f name us = settled-with (λ (r : Packed). afterPack r (discoveryBytes cid f name us) buf)
+pub pack-synchronization : SettledWith Pack.pack_synchronization.Reads.Learnt (λ k e. now (e .0))
+pack-synchronization = settled-with (λ k a r e p. p)
+
+pub pack-discovery : SettledWith Pack.pack_discovery.Reads.Learnt (λ k e. now (e .0))
+pack-discovery = settled-with (λ k a r e p. p)
 
 -- edition2009
-module _ (d : List ℕ) where
-  pub parse-2009 : Settled (reading2009Of d)
-  parse-2009 = settled
+pub parse-2009 : Settled Edition2009.parse.Reads.Learnt
+parse-2009 = settled (λ k a r e p. p)
 
-  pub name-2009 : (r : Reading2009) → Settled (shownAt d (old.namePlace (r .packet)))
-  name-2009 r = settled
+pub name-2009 : SettledAs Edition2009.name.Reads.Learnt (λ k r e. now r)
+name-2009 = settled-as (λ k a r e p. p)
 
-  pub values-2009 : (r : Reading2009) → Settled (shownAt d (old.valuesPlace (r .packet)))
-  values-2009 r = settled
+pub values-2009 : SettledAs Edition2009.values.Reads.Learnt (λ k r e. now r)
+values-2009 = settled-as (λ k a r e p. p)

@@ -1,73 +1,54 @@
 -- Demand 1 for the calls that read captures and put text: two results that satisfy a call's contract are equal, and so are two buffers at
 -- exit. Assumes nothing.
-use Prim.Native.Nat.{ℕ}
-use mathlib.Core.Path.{_≡_, sym, _∙_}
-use mathlib.Core.List.{List, _++_}
-use Rattle.refusal.specs.declared.Refusal.{Refusal}
-use Rattle.framing.specs.declared.data.DataFields.{DataFields}
-use Rattle.extended.specs.declared.synchronization.SynchronizationFields.{SynchronizationFields}
-use Rattle.discovery.specs.declared.DiscoveryFields.{DiscoveryFields}
-use Rattle.packet.specs.declared.Reading.{Reading}
-use Rattle.capture.specs.Length.{lengthOf}
-use Rattle.capture.specs.Entry.{frontOf}
-use Rattle.text.specs.Put.{Put}
-use Rattle.text.specs.Digits.{decimal, hex}
-use Rattle.fields.specs.Texts.{dataFieldsText, synchronizationText, pageText, refusalText}
-use Rattle.line.specs.Lines.{refusedLine, lineOf, lastLine}
-use Rattle.line.specs.declared.Ending.{Ending}
-use Rattle.demands.proofs.Settled.{Settled}
+use denote.Ref.{now}
+use Rattle.capture.proofs as Capture
+use Rattle.text.proofs as Text
+use Rattle.fields.proofs as Fields
+use Rattle.line.proofs as Line
+use Rattle.demands.proofs.Contracts.{Settled, settled, SettledWith, settled-with}
 
 -- capture
-module _ (s : List ℕ) where
-  pub parse-length : Settled (lengthOf s)
-  parse-length r t e f = e ∙ sym f
+pub parse-length : Settled Capture.parse_length.Reads.Learnt
+parse-length = settled (λ k a r e p. p)
 
-  pub parse-entry : Settled (frontOf s)
-  parse-entry r t e f = e ∙ sym f
+pub parse-entry : Settled Capture.parse_entry.Reads.Learnt
+parse-entry = settled (λ k a r e p. p)
 
-module _ (out : List ℕ) (at : ℕ) where
-  -- two places and two buffers after the same bytes were put
-  abbrev pub SettledPut : List ℕ → Type 0
-  SettledPut bytes = (r s : ℕ) (b c : List ℕ) → Put out b at r bytes → Put out c at s bytes → (r ≡ s) × (b ≡ c)
+-- text
+pub put : SettledWith Text.put.Reads.Learnt (λ k e. now (e .0))
+put = settled-with (λ k a r e p. (p .place, p .written))
 
-  puts : (bytes : List ℕ) → SettledPut bytes
-  puts bytes r s b c p q = (p .place ∙ sym (q .place), p .written ∙ sym (q .written))
+pub put-decimal : SettledWith Text.put_decimal.Reads.Learnt (λ k e. now (e .0))
+put-decimal = settled-with (λ k a r e p. (p .place, p .written))
 
-  -- text
-  pub put : (s : List ℕ) → SettledPut s
-  put s = puts s
+pub put-field : SettledWith Text.put_field.Reads.Learnt (λ k e. now (e .0))
+put-field = settled-with (λ k a r e p. (p .place, p .written))
 
-  pub put-decimal : (n : ℕ) → SettledPut (decimal n)
-  put-decimal n = puts (decimal n)
+pub put-hex : SettledWith Text.put_hex.Reads.Learnt (λ k e. now (e .0))
+put-hex = settled-with (λ k a r e p. (p .place, p .written))
 
-  pub put-field : (word : List ℕ) (n : ℕ) → SettledPut (word ++ decimal n)
-  put-field word n = puts (word ++ decimal n)
+-- fields
+pub put-data-fields : SettledWith Fields.put_data_fields.Reads.Learnt (λ k e. now (e .0))
+put-data-fields = settled-with (λ k a r e p. (p .place, p .written))
 
-  pub put-hex : (s : List ℕ) → SettledPut (hex s)
-  put-hex s = puts (hex s)
+pub put-synchronization-fields : SettledWith Fields.put_synchronization_fields.Reads.Learnt (λ k e. now (e .0))
+put-synchronization-fields = settled-with (λ k a r e p. (p .place, p .written))
 
-  -- fields
-  pub put-data-fields : (f : DataFields) → SettledPut (dataFieldsText f)
-  put-data-fields f = puts (dataFieldsText f)
+pub put-page : SettledWith Fields.put_page.Reads.Learnt (λ k e. now (e .0))
+put-page = settled-with (λ k a r e p. (p .place, p .written))
 
-  pub put-synchronization-fields : (f : SynchronizationFields) → SettledPut (synchronizationText f)
-  put-synchronization-fields f = puts (synchronizationText f)
+pub put-named : SettledWith Fields.put_named.Reads.Learnt (λ k e. now (e .0))
+put-named = settled-with (λ k a r e p. (p .place, p .written))
 
-  pub put-page : (f : DiscoveryFields) → SettledPut (pageText f)
-  put-page f = puts (pageText f)
+pub put-refusal : SettledWith Fields.put_refusal.Reads.Learnt (λ k e. now (e .0))
+put-refusal = settled-with (λ k a r e p. (p .place, p .written))
 
-  pub put-named : (n : ℕ) (word name : List ℕ) → SettledPut (decimal n ++ (word ++ hex name))
-  put-named n word name = puts (decimal n ++ (word ++ hex name))
+-- line
+pub put-refused : SettledWith Line.put_refused.Reads.Learnt (λ k e. now (e .0))
+put-refused = settled-with (λ k a r e p. (p .place, p .written))
 
-  pub put-refusal : (r : Refusal) → SettledPut (refusalText r)
-  put-refusal r = puts (refusalText r)
+pub put-line : SettledWith Line.put_line.Reads.Learnt (λ k e. now (e .0))
+put-line = settled-with (λ k a r e p. (p .place, p .written))
 
-  -- line
-  pub put-refused : (n : ℕ) (r : Refusal) → SettledPut (refusedLine n r)
-  put-refused n r = puts (refusedLine n r)
-
-  pub put-line : (n : ℕ) (d : List ℕ) (r : Reading) → SettledPut (lineOf n d r)
-  put-line n d r = puts (lineOf n d r)
-
-  pub put-last-line : (e : Ending) (n : ℕ) → SettledPut (lastLine e n)
-  put-last-line e n = puts (lastLine e n)
+pub put-last-line : SettledWith Line.put_last_line.Reads.Learnt (λ k e. now (e .0))
+put-last-line = settled-with (λ k a r e p. (p .place, p .written))

@@ -5,6 +5,8 @@ use mathlib.Core.List.{List, [], _∷_, _++_, append-nil, append-assoc}
 use native.Mathlib.Omega.{arith}
 use lib.ListN.{length, take, drop, length-append, length-drop, length-take}
 use lib.Seq.{take-all, length-take-le}
+use Rattle.wire.specs.Bytes.{Bytes}
+use Rattle.wire.proofs.Bytes.{bytes-drop}
 use Rattle.wire.specs.Fields.{u16At, u32At, byteAt, be16}
 use Rattle.refusal.specs.Check.{choose, framing}
 use Rattle.refusal.proofs.Laws.{All, all-hold}
@@ -23,14 +25,14 @@ use Rattle.packet.specs.Packet.{extendedRecord, extendedPacketOf, readingOf, pa
 use Rattle.pack.proofs.Writing.{synchronization-long}
 use Rattle.pack.specs.Writing.{synchronizationBytes, synchronizationLength, synchronizationWriteChecks, packedOf, afterPack}
 use Rattle.pack.specs.declared.Packed.the-variants.{Length, Refused}
-use Rattle.demands.specs.Limits.{Bytes, ReadableSynchronization}
+use Rattle.demands.specs.Limits.{ReadableSynchronization}
 use Rattle.demands.specs.Content.{synchronizationContent, meaning}
 use Rattle.demands.specs.Ignored.{AlikeSynchronization}
 use Rattle.demands.proofs.Root.{rooted, root-extended, root-cid, only-root, rest-framing}
 use Rattle.demands.proofs.Variants.{agrees, variant}
 use Rattle.demands.proofs.Meaning.{readAs, synchronization-read, synchronization-meant, means}
 use Rattle.demands.proofs.Extended.{head-bytes, rooted-by, extended-says, synchronization-says}
-use Rattle.demands.proofs.Segments.{join-cuts, field8, field16, bytes-drop}
+use Rattle.demands.proofs.Segments.{join-cuts, field8, field16}
 
 -- a synchronization packet's framing layer, its reserved bytes any
 abbrev frame : SynchronizationFields → List ℕ → List ℕ

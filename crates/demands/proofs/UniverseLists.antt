@@ -4,11 +4,11 @@ use mathlib.Core.Path.{_≡_, refl, sym, ap, _∙_}
 use mathlib.Core.List.{List, [], _∷_, _++_, append-nil}
 use native.Mathlib.Omega.{arith}
 use lib.ListN.{length}
+use Rattle.wire.specs.Bytes.{Bytes, Words}
 use Rattle.wire.specs.Fields.{u16At}
 use Rattle.refusal.proofs.Laws.{All}
 use Rattle.discovery.specs.Universes.{universes, allUniverses, pairs, pairsFrom, ascends, rises, orderChecks, listChecks, universeBytes}
 use Rattle.discovery.proofs.Laws.{bytes-length}
-use Rattle.demands.specs.Limits.{Bytes, Words}
 
 -- numbers of 16 bits are found again in their bytes, whatever follows
 pub universes-back : (us rest : List ℕ) → Words us → universes (length us) (universeBytes us ++ rest) ≡ us

@@ -2,20 +2,23 @@
 use Prim.Native.Nat.{ℕ}
 use mathlib.Core.Bool.{Bool, true, false}
 use mathlib.Core.List.{List, [], _∷_, _++_}
-use lib.ListN.{set, replicate}
+use lib.ListN.{length, set, replicate}
 use Rattle.refusal.specs.Check.{refusal, nowhere, preamble, root, framing, outcome, checkedOf}
 use Rattle.refusal.specs.declared.Checked.{Checked}
 use Rattle.refusal.specs.declared.Checked.the-variants as checked
-use Rattle.universe.specs.Universe.{multicastOf}
+use Rattle.universe.specs.Universe.{universeChecks, multicastOf}
 use Rattle.universe.specs.declared.Multicast.{Multicast}
 use Rattle.universe.specs.declared.Multicast.the-variants as multicast
 use Rattle.name.specs.Utf8.{wellFormed}
-use Rattle.discovery.specs.Universes.{orderChecks}
+use Rattle.discovery.specs.declared.DiscoveryFields.{DiscoveryFields}
 use Rattle.packet.specs.Packet.{readingOf}
 use Rattle.packet.specs.declared.Packet.the-variants as packet
 use Rattle.packet.specs.declared.Reading.{Reading}
+use Rattle.pack.specs.Writing.{discoveryBytes, discoveryLength, discoveryWriteChecks, packedOf, afterPack}
+use Rattle.pack.specs.declared.Packed.{Packed}
+use Rattle.pack.specs.declared.Packed.the-variants as packed
 
--- a datagram to read, a universe to address, bytes that may be UTF-8, universes to write
+-- a datagram to read, a universe whose range and address are asked, bytes that may be UTF-8, universes to write as a discovery packet
 pub data Question : Type 0 where
   read : List ℕ → Question
   address : ℕ → Question
@@ -24,15 +27,29 @@ pub data Question : Type 0 where
 
 pub data Answer : Type 0 where
   is : Reading → Answer
-  at : Multicast → Answer
+  at : Checked → Multicast → Answer
   formed : Bool → Answer
-  found : Checked → Answer
+  left : Packed → List ℕ → Answer
+
+-- what the universes are written with: a buffer that holds two of them and no more, a CID, a name, a single page
+unfoldable pub buffer : List ℕ
+buffer = replicate 124 0xee
+
+abbrev pub title : List ℕ
+title = 0x61 ∷ []
+
+abbrev pub single : DiscoveryFields
+single = record { page = 0; «last_page» = 0 }
+
+-- the writer's answer, and the buffer afterwards
+abbrev pub writes : List ℕ → Packed → Answer
+writes us p = left p (afterPack p (discoveryBytes (replicate 16 0x11) single title us) buffer)
 
 unfoldable pub answer : Question → Answer
 answer (read d) = is (readingOf d)
-answer (address u) = at (multicastOf u)
+answer (address u) = at (checkedOf (universeChecks u)) (multicastOf u)
 answer (text s) = formed (outcome (wellFormed s))
-answer (write us) = found (checkedOf (orderChecks us))
+answer (write us) = writes us (packedOf (discoveryWriteChecks (length buffer) title us) (discoveryLength us))
 
 -- packet S
 unfoldable pub S : List ℕ
@@ -46,10 +63,14 @@ abbrev pub refused : ℕ → ℕ → ℕ → Answer
 refused n place value = is (record { cid = replicate 16 0; packet = packet.Refused (refusal n place value) })
 
 abbrev pub reached : ℕ → ℕ → Answer
-reached high low = at (multicast.Address (record { highest = 239; second = 255; third = high; lowest = low; port = 5568 }))
+reached high low = at checked.Passed (multicast.Address (record { highest = 239; second = 255; third = high; lowest = low; port = 5568 }))
 
 abbrev pub unreached : ℕ → Answer
-unreached u = at (multicast.Refused (refusal 30 nowhere u))
+unreached u = at (checked.Refused (refusal 30 nowhere u)) (multicast.Refused (refusal 30 nowhere u))
+
+-- a refused write: the buffer as found
+abbrev pub unwritten : ℕ → Answer
+unwritten n = left (packed.Refused (refusal n nowhere 0)) buffer
 
 pub record Example : Type 0 where
   pub question : Question
@@ -76,7 +97,7 @@ examples =
     ∷ (read (set (set S 45 0) 46 0) gives refused 9 framing 0)
     ∷ (read (set S 16 0x60) gives refused 3 root 96)
     ∷ (read (set S 17 21) gives refused 13 root 0)
-    -- (i) universes 63999 and 64214; 0 and 64000
+    -- (i) universes 63999 and 64214, in range and addressed; 0 and 64000, neither
     ∷ (address 63999 gives reached 249 255)
     ∷ (address 64214 gives reached 250 214)
     ∷ (address 0 gives unreached 0)
@@ -87,6 +108,6 @@ examples =
     ∷ (text (0xed ∷ 0xa0 ∷ 0x80 ∷ []) gives formed false)
     ∷ (text (0xf4 ∷ 0x90 ∷ 0x80 ∷ 0x80 ∷ []) gives formed false)
     -- (k) universes 5,5 and 5,3
-    ∷ (write (5 ∷ 5 ∷ []) gives found (checked.Refused (refusal 25 nowhere 0)))
-    ∷ (write (5 ∷ 3 ∷ []) gives found (checked.Refused (refusal 26 nowhere 0)))
+    ∷ (write (5 ∷ 5 ∷ []) gives unwritten 25)
+    ∷ (write (5 ∷ 3 ∷ []) gives unwritten 26)
     ∷ []

@@ -2,5 +2,9 @@ pub mod Content
 pub mod Content2009
 pub mod Limits
 pub mod Ignored
+pub mod Layout
+pub mod Unlooked
 pub mod Examples
+pub mod Definitions
 pub mod Kinds
+pub mod Places

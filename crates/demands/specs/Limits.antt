@@ -1,25 +1,35 @@
 -- Document 01's readable limits: which records can be read again when they are written.
-use Prim.Native.Nat.{ℕ, _≤_, _<_}
+use Prim.Native.Nat.{ℕ, zero, suc, _+_, _≤_, _<_}
 use mathlib.Core.Path.{_≡_}
-use mathlib.Core.List.{List}
-use lib.ListN.{length, getD}
+use mathlib.Core.List.{List, [], _∷_}
+use lib.ListN.{length, getD, replicate}
+use Rattle.wire.specs.Bytes.{Words}
+use Rattle.wire.specs.Fields.{join}
 use Rattle.refusal.proofs.Laws.{All}
 use Rattle.name.specs.Name.{writtenNameChecks}
+use Rattle.name.specs.CodePoint.{Encoded}
 use Rattle.discovery.specs.Universes.{orderChecks}
 use Rattle.discovery.specs.declared.DiscoveryFields.{DiscoveryFields}
 use Rattle.framing.specs.declared.data.DataFields.{DataFields}
 use Rattle.extended.specs.declared.synchronization.SynchronizationFields.{SynchronizationFields}
 
--- lists whose elements are bytes, or numbers of 16 bits
-abbrev pub Bytes : List ℕ → Type 0
-Bytes l = (i : ℕ) → getD l i 0 < 0x100
-
-abbrev pub Words : List ℕ → Type 0
-Words l = (i : ℕ) → getD l i 0 < 0x10000
-
 -- a name of well-formed UTF-8, at most 63 bytes, no zero: the checks of a written name
 abbrev pub ReadableName : List ℕ → Type 0
 ReadableName name = All (writtenNameChecks name)
+
+-- the same in plain words: the bytes of some code points, none of them zero, at most 63
+pub record PlainName (name : List ℕ) : Type 0 where
+  pub encoded : Encoded name
+  pub nonzero : (i : ℕ) → i < length name → getD name i 0 ≡ 0 → ⊥
+  pub short : length name ≤ 63
+
+-- universes of which each is above the one before
+abbrev pub Rising : List ℕ → Type 0
+Rising us = (i : ℕ) → i + 1 < length us → getD us i 0 < getD us (i + 1) 0
+
+-- each follows from the other
+abbrev pub Iff : Type 0 → Type 0 → Type 0
+Iff A B = (A → B) × (B → A)
 
 -- priority at most 200; sync address at most 63999; universe 1..63999; at most 513 values
 pub record ReadableData (cid : List ℕ) (f : DataFields) (name values : List ℕ) : Type 0 where
@@ -45,3 +55,11 @@ pub record ReadableDiscovery (cid : List ℕ) (f : DiscoveryFields) (name us : L
   pub few : length us ≤ 512
   pub words : Words us
   pub ascending : All (orderChecks us)
+
+-- At the limits: a name of 63 bytes, 21 times U+20AC; and n universes from u on.
+abbrev pub longName : List ℕ
+longName = join (replicate 21 (0xe2 ∷ 0x82 ∷ 0xac ∷ []))
+
+unfoldable pub upFrom : ℕ → ℕ → List ℕ
+upFrom u zero = []
+upFrom u (suc n) = u ∷ upFrom (u + 1) n

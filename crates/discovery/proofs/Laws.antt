@@ -8,10 +8,13 @@ use native.Mathlib.Numerals.{add-one}
 use lib.ListN.{length, take, drop, getD, set, drop-of-length-le}
 use lib.Seq.{sets, take-suc, length-take-le}
 use Rattle.wire.specs.Fields.{u16At, be16}
+use Rattle.wire.specs.Bytes.{Bytes, Words}
 use Rattle.wire.proofs.Laws.{u16-drop, drop-more, sets-append}
+use Rattle.wire.proofs.Bytes.{bytes-drop, u16-small}
 use Rattle.refusal.specs.Check.{Check, check, refusal, universeList, _≤?_, reading, checkedOf}
 use Rattle.refusal.specs.declared.Checked.the-variants.{Passed, Refused}
-use Rattle.refusal.proofs.Laws.{All, Stops, refusalAt, all-hold, first-fails, reading-++}
+use Rattle.refusal.specs.declared.Refusal.{Refusal}
+use Rattle.refusal.proofs.Laws.{All, Stops, refusalAt, Every, all-hold, first-fails, reading-++, every-++}
 use Rattle.discovery.specs.Universes.{universes, pairs, pairsFrom, ascends, listChecks, rises, orderChecks, checkedFrom, universeBytes}
 
 pub universes-length : (n : ℕ) (p : List ℕ) → length (universes n p) ≡ n
@@ -26,6 +29,13 @@ universes-at (suc n) p zero h = refl
 universes-at (suc n) p (suc i) h =
     universes-at n (drop 2 p) i (omega arith) ∙ u16-drop 2 p (2 * i) ∙ ap (u16At p) (omega arith)
 
+-- The universes that bytes hold have 16 bits.
+pub universes-words : (n : ℕ) (p : List ℕ) → Bytes p → Words (universes n p)
+unfolding universes
+universes-words zero p b i = omega arith
+universes-words (suc n) p b zero = u16-small p 0 b
+universes-words (suc n) p b (suc i) = universes-words n (drop 2 p) (bytes-drop 2 p b) i
+
 -- The checks of neighbours: the first list element has none, each later one those with the one before it.
 module _ (f : ℕ → ℕ → List Check) where
   pub pairs-none : (us : List ℕ) → length us ≡ 0 → pairs f us ≡ []
@@ -35,6 +45,15 @@ module _ (f : ℕ → ℕ → List Check) where
   pub pairs-first : (us : List ℕ) → (length us ≡ 0 → ⊥) → pairs f us ≡ pairsFrom f (getD us 0 0) (drop 1 us)
   pairs-first [] h = absurd (h refl)
   pairs-first (u ∷ us) h = refl
+
+  -- what is so of the checks of a number before each of a list's is so of all checks of its neighbours
+  pub every-pairs : (P : Refusal → Type 0) (us : List ℕ) → ((u i : ℕ) → Every P (f u (getD us i 0))) → Every P (pairs f us)
+  every-pairs P [] h = tt
+  every-pairs P (u ∷ us) h = from u us (λ w i. h w (suc i))
+    where
+      from : (u : ℕ) (us : List ℕ) → ((w i : ℕ) → Every P (f w (getD us i 0))) → Every P (pairsFrom f u us)
+      from u [] h = tt
+      from u (v ∷ vs) h = every-++ P (f u v) (pairsFrom f v vs) (h u 0) (from v vs (λ w i. h w (suc i)))
 
   module _ (us : List ℕ) (u i : ℕ) where
     pairs-more : i < length us →

@@ -10,7 +10,7 @@ use Rattle.refusal.specs.declared.Refusal.{Refusal}
 use Rattle.refusal.specs.declared.Checked.the-variants as checked
 use Rattle.refusal.specs.Check.{Test, outcome, pick, Check, refusal, root, framing, _≤?_, _=?_, _≠?_, reading, checkedOf}
 use Rattle.refusal.proofs.Tests.{Holds, chosen, decide}
-use Rattle.refusal.proofs.Laws.{All, all-hold, first-fails, reading-++, always, afterCheck, check-first}
+use Rattle.refusal.proofs.Laws.{All, all-hold, first-fails, reading-++, always, afterCheck, check-first, every, computed}
 use Rattle.name.specs.Name.{sourceNameChecks}
 use Rattle.pdu.specs.Head.{headChecks, lengthOf, vectorOf}
 use Rattle.pdu.specs.declared.VectorLength.the-variants.{Four}
@@ -23,7 +23,7 @@ use Rattle.packet.specs.Packet.{rootVector, framingPart, framingChecks, dataRec
 use Rattle.packet.specs.Table.{allowed}
 use Rattle.packet.specs.declared.Packet.{Packet}
 use Rattle.packet.specs.declared.Packet.the-variants as present
-use Rattle.packet.proofs.Whole.{read, every, computed}
+use Rattle.packet.proofs.Whole.{read}
 use Rattle.edition2009.specs.Packet.{packetChecks2009, dataRecord2009, packet2009Of, withCid2009, reading2009Of}
 use Rattle.edition2009.specs.Editions.{droppedReading, beforeVector}
 use Rattle.edition2009.specs.declared.Packet2009.{Packet2009}
@@ -164,19 +164,24 @@ eight d h e =
     ∙ first-fails Refused 0 es b (omega arith)
     ∙ ap (λ (n : ℕ). Refused (refusal 4 root n)) h)
 
--- What every check of the 2009 reader tells is so of what it refuses with.
+-- The CID goes with an answer, and changes nothing of it.
 beside : (d : List ℕ) (x : Packet2009) → withCid2009 d x .packet ≡ x
 beside d (Data x) = refl
 beside d (Refused r) = refl
 
+pub read-2009 : (d : List ℕ) → reading2009Of d .packet ≡ packet2009Of d
+unfolding reading2009Of
+read-2009 d = beside d (packet2009Of d)
+
+-- What every check of the 2009 reader tells is so of what it refuses with.
 abbrev Told : (Refusal → Test) → Packet2009 → Type 0
 Told t (Data x) = Unit {0}
 Told t (Refused r) = Holds (t r)
 
 told : (t : Refusal → Test) (d : List ℕ) (r : Refusal) → every t (packetChecks2009 d) ≡ true → reading2009Of d .packet ≡ Refused r → Holds (t r)
-unfolding reading2009Of packet2009Of
+unfolding packet2009Of
 told t d r all e =
-    let x : packet2009Of d ≡ Refused r = sym (beside d (packet2009Of d)) ∙ e in
+    let x : packet2009Of d ≡ Refused r = sym (read-2009 d) ∙ e in
     let answer : Told t (packet2009Of d) =
     always Refused (Told t) (packetChecks2009 d) (Data (dataRecord2009 (framingPart d))) (computed t (packetChecks2009 d) all) tt in
     rw x at answer

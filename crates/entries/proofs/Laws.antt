@@ -1,15 +1,28 @@
 -- Bytes that are moved to a block's front, bytes that arrive, and parts of parts. Assumes nothing.
 use Prim.Native.Nat.{ℕ, zero, suc, _+_, _-_, _≤_, _<_}
 use mathlib.Core.Path.{_≡_, refl, sym, ap, _∙_}
+use mathlib.Core.Bool.{true, false}
 use mathlib.Core.List.{List, [], _∷_, _++_, append-assoc, append-nil}
 use native.Mathlib.Omega.{arith}
-use lib.ListN.{length, take, drop, getD, set, length-take, length-drop}
+use lib.ListN.{length, take, drop, getD, set, length-take, length-drop, length-append}
 use lib.Seq.{sets, length-sets, take-at, take-add, take-nil, length-take-le, getD-drop, getD-set-other, drop-drop}
-use Rattle.refusal.specs.Check.{_≤?_}
-use Rattle.refusal.proofs.Tests.{chosen, choice}
+use lib.IntN.{ℤ, pos, negsuc}
+use lib.Signed.{ltZ}
+use borrow.Author.Tests.{ltb-true}
+use Rattle.refusal.specs.Check.{_≤?_, _=?_}
+use Rattle.refusal.proofs.Tests.{chosen, passed-over, choice}
 use Rattle.wire.specs.Fields.{partOf}
 use Rattle.wire.proofs.Laws.{sets-more, sets-front}
-use Rattle.entries.specs.Entries.{More}
+use Rattle.capture.specs.Entry.{frontOf}
+use Rattle.capture.specs.declared.Front.{Front}
+use Rattle.entries.specs.System.{counted, saidOf, reachedBy, isError, quietAfter, Arrived}
+use Rattle.entries.specs.Entries.{waitsAt, More, Enough, Taken, over}
+use Rattle.entries.specs.declared.system.Heard.{Heard}
+use Rattle.entries.specs.declared.system.Wrote.{Wrote}
+use Rattle.entries.specs.declared.State.{State}
+use Rattle.entries.specs.declared.Next.the-variants.{Failed}
+use Rattle.entries.specs.declared.system.Said.{Said}
+use Rattle.entries.specs.declared.system.Said.the-variants.{Nothing, Bytes, End, Error}
 
 -- what stands behind bytes that are written stays
 behind : (vs l : List ℕ) (i j : ℕ) → i + length vs ≤ j → getD (sets l i vs) j 0 ≡ getD l j 0
@@ -28,7 +41,7 @@ shift-more l start i {m} h e =
     rw (a, e) (sym (sets-more s l 0 i k ∙ rw z))
 
 -- the front of a block to whose front bytes were moved
-pub shifted : (l : List ℕ) (start n : ℕ) → start + n ≤ length l → take n (sets l 0 (take n (drop start l))) ≡ take n (drop start l)
+shifted : (l : List ℕ) (start n : ℕ) → start + n ≤ length l → take n (sets l 0 (take n (drop start l))) ≡ take n (drop start l)
 shifted l start n h =
     let s = take n (drop start l) in
     let e : length s ≡ n = length-take-le n (drop start l) (omega (arith, length-drop start l)) in
@@ -38,17 +51,55 @@ shifted l start n h =
 pub before-lent : (l m : List ℕ) (n : ℕ) → n ≤ length l → take n (take n l ++ (m ++ drop (length l - n) (drop n l))) ≡ take n l
 before-lent l m n h = take-at (take n l) (m ++ drop (length l - n) (drop n l)) n (length-take-le n l h)
 
+pub true-not-false : true ≡ false → ⊥
+true-not-false e = let z : _≡_ {A = ℕ} 0 1 = cc in omega arith
+
+pub never : {A : Type 0} → false ≡ true → A
+never e = absurd (true-not-false (sym e))
+
+-- a count goes on
+pub counted-on : (a x y : ℕ) → counted (counted a x) y ≡ counted a (x + y)
+counted-on a x y = omega arith
+
+counted-none : (a x : ℕ) → counted (counted a 0) x ≡ counted a x
+counted-none a x = omega arith
+
 -- bytes that arrive, and more of them
-pub none-more : (s : List ℕ) → More s s
-none-more s = ([], sym (append-nil s))
+pub none-more : (s : List ℕ) (h h' : Heard) → h' ≡ quietAfter h → More s s h h'
+none-more s h h' e = ([], sym (append-nil s), ap (λ (x : Heard). x .total) e, λ w. (refl, ap (λ (x : Heard). x .said) e))
 
-pub more-then : (a b c : List ℕ) → More a b → More b c → More a c
-more-then a b c (x, e) (y, f) = (x ++ y, f ∙ rw e (append-assoc a x y))
+-- counted from the read before
+pub after-quiet : (a b : List ℕ) (h q h' : Heard) → q ≡ quietAfter h → More a b q h' → More a b h h'
+after-quiet a b h q h' e (x, is, count, none) = (
+  x,
+  is,
+  count ∙ ap (λ (y : Heard). counted (y .total) (length x)) e ∙ counted-none (h .total) (length x),
+  none,
+)
 
-pub arrive : (l m : List ℕ) (n k : ℕ) → n ≤ k → take n m ≡ take n l → More (take n l) (take k m)
+pub quiet-none : (s : List ℕ) (h q : Heard) → q ≡ quietAfter h → More s s q q
+quiet-none s h q e = ([], sym (append-nil s), omega (arith, ap (λ (x : Heard). x .total) e), λ w. (refl, ap (λ (x : Heard). x .said) e))
+
+-- more than that only where the front waits for it
+pub more-then : (a b c : List ℕ) (h h' h'' : Heard) → More a b h h' → waitsAt (frontOf b) ≡ true → (y : List ℕ) → c ≡ b ++ y → h'' .total ≡ counted (h' .total) (length y) → More a c h h''
+more-then a b c h h' h'' (x, e, before, none) waits y f count = (
+  x ++ y,
+  f ∙ rw e (append-assoc a x y),
+  count ∙ rw before (counted-on (h .total) (length x) (length y)) ∙ ap (counted (h .total)) (sym (length-append x y)),
+  λ w.
+      let same : b ≡ a = e ∙ ap (λ (l : List ℕ). a ++ l) (none w .0) ∙ append-nil a in
+      let clash : true ≡ false = sym waits ∙ ap (λ (l : List ℕ). waitsAt (frontOf l)) same ∙ w in
+      absurd (true-not-false clash),
+)
+
+pub arrive : (l m : List ℕ) (n k : ℕ) → n ≤ k → take n m ≡ take n l → take k m ≡ take n l ++ take (k - n) (drop n m)
 arrive l m n k h e =
     let s : n + (k - n) ≡ k = omega arith in
-    (take (k - n) (drop n m), rw (← e, ← take-add n (k - n) m, s))
+    rw (← e, ← take-add n (k - n) m, s)
+
+-- as many as lie between
+pub arrive-long : (m : List ℕ) (n k : ℕ) → n ≤ k → k ≤ length m → length (take (k - n) (drop n m)) ≡ k - n
+arrive-long m n k h g = length-take-le (k - n) (drop n m) (omega (arith, length-drop n m))
 
 -- a part at the front, and a part that has bytes
 pub front-part : (s : List ℕ) (n : ℕ) → n ≤ length s → partOf s 0 n ≡ take n s
@@ -102,3 +153,74 @@ pub put-part : (l x : List ℕ) (n : ℕ) → length x ≡ n → n ≤ length l 
 put-part l x n e h =
     let k : n ≤ length (sets l 0 x) = omega (arith, length-sets l 0 x) in
     front-part (sets l 0 x) n k ∙ rw (sets-front x l n e h) (take-at x (drop n l) n e)
+
+-- what the number that a read answers says: below zero, zero, above
+pub failed-read : (z : ℤ) (count n : ℕ) → ltZ z (pos 0) ≡ true → Error ≡ saidOf z count n
+failed-read (pos k) count n h = absurd (let z = ltb-true k 0 h in omega arith)
+failed-read (negsuc k) count n h = refl
+
+pub ended-read : (z : ℤ) (count n : ℕ) → ltZ z (pos 0) ≡ false → count ≡ 0 → End ≡ saidOf z count n
+ended-read (pos k) count n h e = chosen (count =? 0) End (Bytes (n + count)) e refl
+ended-read (negsuc k) count n h e = never (sym h)
+
+pub bytes-read : (z : ℤ) (count n : ℕ) → ltZ z (pos 0) ≡ false → (count ≡ 0 → ⊥) → Bytes (n + count) ≡ saidOf z count n
+bytes-read (pos k) count n h e = passed-over (count =? 0) End (Bytes (n + count)) e refl
+bytes-read (negsuc k) count n h e = never (sym h)
+
+-- bytes that lie in the block, or the end where it had room
+pub arrived : (z : ℤ) (count n room : ℕ) → n + count ≤ room → n < room → Arrived n room (saidOf z count n)
+arrived (pos k) count n room h g =
+    choice (Arrived n room) (count =? 0) End (Bytes (n + count)) (λ e. g) (λ e. (omega arith, omega arith))
+arrived (negsuc k) count n room h g = tt
+
+-- a read brings no fewer bytes than were there
+pub no-fewer : (said : Said) (n room : ℕ) → Arrived n room said → n ≤ reachedBy said n
+no-fewer Nothing n room h = absurd h
+no-fewer (Bytes m) n room h = omega arith
+no-fewer End n room h = omega arith
+no-fewer Error n room h = omega arith
+
+-- where a read brings no bytes, the front still waits
+pub no-more : (said : Said) (n room : ℕ) (x : Front) → Arrived n room said → reachedBy said n ≤ n → waitsAt x ≡ true → Enough said x
+no-more Nothing n room x h none w = absurd h
+no-more (Bytes m) n room x h none w = absurd (omega arith)
+no-more End n room x h none w = w
+no-more Error n room x h none w = w
+
+-- where it brings some, they lie in the block, and neither an end nor an error was said
+pub some-more : (said : Said) (n room : ℕ) (x : Front) → Arrived n room said → n < reachedBy said n → waitsAt x ≡ false →
+    (reachedBy said n ≤ room) × Enough said x
+some-more Nothing n room x h some w = absurd h
+some-more (Bytes m) n room x h some w = (h .1, w)
+some-more End n room x h some w = absurd (omega arith)
+some-more Error n room x h some w = absurd (omega arith)
+
+-- and reading may stop at any front that waits for no more
+pub stops-at : (said : Said) (x y : Front) → Enough said x → waitsAt x ≡ false → waitsAt y ≡ false → Enough said y
+stops-at Nothing x y h w v = v
+stops-at (Bytes m) x y h w v = v
+stops-at End x y h w v = never (sym w ∙ h)
+stops-at Error x y h w v = never (sym w ∙ h)
+
+-- where the front waits and no read failed, the input has ended
+pub ended : (said : Said) (x : Front) → Enough said x → isError said ≡ false → waitsAt x ≡ true → said ≡ End
+ended Nothing x h good w = never (sym h ∙ w)
+ended (Bytes m) x h good w = never (sym h ∙ w)
+ended End x h good w = refl
+ended Error x h good w = absurd (true-not-false good)
+
+-- a read that failed: what is unread stays
+pub gave-up : (s t before : List ℕ) (h h' : Heard) → More s t h h' → Enough (h' .said) (frontOf t) → isError (h' .said) ≡ true → Taken s Failed h h' t before before
+gave-up s t before h h' (arrived, e, count, none) enough bad =
+    let said : h' .said ≡ Error = is-error (h' .said) bad in
+    (arrived, (rw (← e) (rw said at enough), refl, e), rw (← e) enough, said, count, none)
+  where
+    is-error : (x : Said) → isError x ≡ true → x ≡ Error
+    is-error Nothing b = never b
+    is-error (Bytes m) b = never b
+    is-error End b = never b
+    is-error Error b = refl
+
+-- a program that is over, by what it heard and wrote last
+pub over-by : (x : State) (h : Heard) (w : Wrote) (n : ℕ) → x ≡ over h w → w .total ≡ n → (x ≡ over h (x .wrote)) × (x .wrote .total ≡ n)
+over-by x h w n e count = (e ∙ ap (over h) (sym (ap (λ (y : State). y .wrote) e)), ap (λ (y : State). y .wrote .total) e ∙ count)

@@ -1,9 +1,9 @@
 -- Entries taken from input that arrives in pieces: which bytes arrive is the system's, and all else is said of any that do.
-use Prim.Native.Nat.{ℕ, _+_, _≤_, _<_}
+use Prim.Native.Nat.{ℕ, _+_, min}
 use mathlib.Core.Path.{_≡_}
 use mathlib.Core.Bool.{Bool, true, false}
-use mathlib.Core.List.{List, _++_}
-use lib.ListN.{take, drop}
+use mathlib.Core.List.{List, [], _++_}
+use lib.ListN.{length, take, drop}
 use lib.Seq.{sets}
 use Rattle.refusal.specs.Check.{_≤?_, choose}
 use Rattle.wire.specs.Fields.{partOf}
@@ -12,12 +12,15 @@ use Rattle.capture.specs.declared.Front.{Front}
 use Rattle.capture.specs.declared.Front.the-variants as front
 use Rattle.line.specs.declared.Ending.{Ending}
 use Rattle.line.specs.declared.Ending.the-variants as ending
+use Rattle.entries.specs.System.{counted, nothingHeard, nothingWritten}
+use Rattle.entries.specs.declared.system.Said.{Said}
+use Rattle.entries.specs.declared.system.Said.the-variants as system
+use Rattle.entries.specs.declared.system.Heard.{Heard}
+use Rattle.entries.specs.declared.system.Wrote.{Wrote}
 use Rattle.entries.specs.declared.Unread.{Unread}
 use Rattle.entries.specs.declared.State.{State}
 use Rattle.entries.specs.declared.Next.{Next}
 use Rattle.entries.specs.declared.Next.the-variants.{Entry, Stop, Failed}
-use Rattle.entries.specs.declared.Arrival.{Arrival}
-use Rattle.entries.specs.declared.Arrival.the-variants as arrival
 
 -- the bytes of a block that no entry was made of yet
 abbrev pub unreadIn : List ℕ → Unread → List ℕ
@@ -30,15 +33,20 @@ waitsAt front.Bad = false
 waitsAt front.Cut = true
 waitsAt front.End = true
 
--- one read: some bytes behind the first n, within the block
-abbrev pub Arrived : ℕ → ℕ → Arrival → Type 0
-Arrived n room (arrival.Bytes m) = (n < m) × (m ≤ room)
-Arrived n room arrival.Ended = Unit {0}
-Arrived n room arrival.Failed = Unit {0}
+-- some bytes arrived behind those that were there, and all are counted; where the front waits for none, nothing is heard of a read
+abbrev pub More : List ℕ → List ℕ → Heard → Heard → Type 0
+More before after heard heard' =
+    (arrived : List ℕ)
+    × (after ≡ before ++ arrived)
+    × (heard' .total ≡ counted (heard .total) (length arrived))
+    × (waitsAt (frontOf before) ≡ false → (arrived ≡ []) × (heard' .said ≡ system.Nothing))
 
--- some bytes arrived behind those that were there
-abbrev pub More : List ℕ → List ℕ → Type 0
-More before after = (arrived : List ℕ) × (after ≡ before ++ arrived)
+-- reading stops where the front waits for no more, or where the system says that the input ends, or an error
+abbrev pub Enough : Said → Front → Type 0
+Enough system.Nothing x = waitsAt x ≡ false
+Enough (system.Bytes m) x = waitsAt x ≡ false
+Enough system.End x = waitsAt x ≡ true
+Enough system.Error x = waitsAt x ≡ true
 
 -- where a capture stops: at its end, inside an entry or its length, at a bad length
 abbrev pub stopped : Ending → Front
@@ -50,17 +58,40 @@ stopped ending.Bad = front.Bad
 abbrev pub Took : List ℕ → Next → List ℕ → List ℕ → List ℕ → Type 0
 Took s (Entry n) left before after =
     (k : ℕ) × (frontOf s ≡ front.Entry k n) × (after ≡ sets before 0 (take n (drop k s))) × (left ≡ drop (k + n) s)
-Took s (Stop e) left before after = (frontOf s ≡ stopped e) × (after ≡ before)
-Took s Failed left before after = after ≡ before
+Took s (Stop e) left before after = (frontOf s ≡ stopped e) × (after ≡ before) × (left ≡ s)
+Took s Failed left before after = (waitsAt (frontOf s) ≡ true) × (after ≡ before) × (left ≡ s)
 
--- the same, once more bytes have arrived
-abbrev pub Taken : List ℕ → Next → List ℕ → List ℕ → List ℕ → Type 0
-Taken s next left before after = (arrived : List ℕ) × Took (s ++ arrived) next left before after
+-- what the system said where that is the answer: a capture that ends or is cut, that the input ends; a read that failed, an error
+abbrev pub Because : Next → Said → Type 0
+Because (Entry n) said = Unit {0}
+Because (Stop ending.End) said = said ≡ system.End
+Because (Stop ending.Cut) said = said ≡ system.End
+Because (Stop ending.Bad) said = Unit {0}
+Because Failed said = said ≡ system.Error
+
+-- the same, once more bytes have arrived and were counted, as many as are needed: none, and nothing is heard of a read, where the front waits for
+-- none
+abbrev pub Taken : List ℕ → Next → Heard → Heard → List ℕ → List ℕ → List ℕ → Type 0
+Taken s next heard heard' left before after =
+    (arrived : List ℕ)
+    × Took (s ++ arrived) next left before after
+    × Enough (heard' .said) (frontOf (s ++ arrived))
+    × Because next (heard' .said)
+    × (heard' .total ≡ counted (heard .total) (length arrived))
+    × (waitsAt (frontOf s) ≡ false → (arrived ≡ []) × (heard' .said ≡ system.Nothing))
 
 -- the next line's place: where the text ends, or the front where it would come too near the buffer's end
 abbrev pub roomIn : ℕ → ℕ → ℕ
 roomIn room at = choose (at + 40000 ≤? room) at 0
 
+-- how much text leaves for that
+abbrev pub leaving : ℕ → ℕ → ℕ
+leaving room at = choose (at + 40000 ≤? room) 0 (min at room)
+
+-- nothing was read, nothing is unread, no text is there
+abbrev pub begun : State
+begun = record { unread = record { start = 0; len = 0 }; at = 0; heard = nothingHeard; wrote = nothingWritten; going = true }
+
 -- nothing is left to do
-abbrev pub over : State
-over = record { unread = record { start = 0; len = 0 }; at = 0; going = false }
+abbrev pub over : Heard → Wrote → State
+over heard wrote = record { unread = record { start = 0; len = 0 }; at = 0; heard = heard; wrote = wrote; going = false }

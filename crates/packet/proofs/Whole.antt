@@ -1,22 +1,21 @@
 -- The reader's whole behaviour, flat: the list of all checks of a datagram, and what `parse` makes of it. Assumes nothing.
-use Prim.Native.Nat.{ℕ, _*_}
+use Prim.Native.Nat.{ℕ}
 use mathlib.Core.Path.{_≡_, refl, sym, _∙_}
 use mathlib.Core.List.{List, [], _∷_, _++_, append-nil}
-use mathlib.Core.Bool.{Bool, true, false}
 use mathlib.Core.Logic.{_⊎_, inl, inr}
-use native.Mathlib.Omega.{arith}
-use lib.ListN.{length}
+use lib.ListN.{length, getD}
 use Rattle.refusal.specs.declared.Refusal.{Refusal}
-use Rattle.refusal.specs.Check.{Test, outcome, pick, Check, check, refusal, root, framing, dmp, discovery, universeList, _≤?_, _=?_, choose}
-use Rattle.refusal.proofs.Tests.{Fact, Holds, fact, chosen, passed-over, choice}
-use Rattle.refusal.proofs.Laws.{All, Stops, refusalAt, Every, decides, all-hold, first-fails, always}
+use Rattle.refusal.specs.Check.{Check, refusal, root, framing, dmp, discovery, universeList, _=?_, choose}
+use Rattle.refusal.proofs.Tests.{Holds, fact, chosen, passed-over, choice}
+use Rattle.refusal.proofs.Laws.{All, Stops, refusalAt, Every, decides, all-hold, first-fails, always, every-++, computed}
 use Rattle.name.specs.Name.{sourceNameChecks}
 use Rattle.pdu.specs.Head.{headChecks, lengthOf, vectorOf}
 use Rattle.pdu.specs.declared.VectorLength.the-variants.{One, Four}
 use Rattle.dmp.specs.Layer as dmpLayer
 use Rattle.discovery.specs.Layer as discoveryLayer
 use Rattle.discovery.specs.Layer.{listPart, countIn}
-use Rattle.discovery.specs.Universes.{universes, pairs, pairsFrom, ascends, listChecks}
+use Rattle.discovery.specs.Universes.{universes, pairs, ascends, listChecks}
+use Rattle.discovery.proofs.Laws.{every-pairs}
 use Rattle.framing.specs.declared.Edition.the-variants.{E2018}
 use Rattle.framing.specs.Data as dataLayer
 use Rattle.framing.specs.Data.{dataChecks, nameField, dmpPart, priorityChecks, syncAddressChecks, universeChecks}
@@ -135,68 +134,74 @@ module _ (d : List ℕ) (other : rootVector d ≡ 4 → ⊥) where
         append-nil (pairs ascends (universes (countIn (lengthOf q)) (listPart q))),
       )
 
--- Every check of two lists, joined.
-pub every-++ : (P : Refusal → Type 0) (cs ds : List Check) → Every P cs → Every P ds → Every P (cs ++ ds)
-every-++ P [] ds h k = k
-every-++ P (c ∷ cs) ds h k = (h .0, every-++ P cs ds (h .1) k)
+-- What is so of every check of each layer is so of every check of a datagram.
+pub each-check : (P : Refusal → Type 0) (d : List ℕ) →
+    let r = rootPart d in
+    let p = framingPart d in
+    let len = lengthOf p in
+    let q = discoveryPart p len in
+    Every P (preambleChecks d ++ rootChecks E2018 r) →
+    Every P (dataChecks E2018 p) →
+    Every P (headChecks Four framing p ++ kindChecks (length r) len (vectorOf Four p)) →
+    Every P (synchronizationChecks p len) →
+    Every P (discoveryFraming.startChecks p len ++ sourceNameChecks (nameField p)) →
+    Every P (headChecks Four discovery q ++ discoveryLayer.ownChecks q (lengthOf q) (vectorOf Four q)) →
+    P (refusal 1 universeList 0) →
+    ((i : ℕ) → P (refusal 12 universeList (getD (universes (countIn (lengthOf q)) (listPart q)) i 0))) →
+    Every P (packetChecks d)
+each-check P d outer values kind sync framed own short order =
+    let p = framingPart d in
+    let len = lengthOf p in
+    let vec = vectorOf Four p in
+    let q = discoveryPart p len in
+    let listed = listChecks (listPart q) (countIn (lengthOf q)) in
+    let layer = headChecks Four discovery q ++ discoveryLayer.ownChecks q (lengthOf q) (vectorOf Four q) in
+    let list : Every P listed = (short, every-pairs ascends P (universes (countIn (lengthOf q)) (listPart q)) (λ u i. (order i, tt))) in
+    let disc : Every P (discoveryFramingChecks p len) =
+    every-++ P (discoveryFraming.startChecks p len ++ sourceNameChecks (nameField p)) (layer ++ listed) framed (every-++ P layer listed own list) in
+    let n = length (rootPart d) in
+    let body = choose (vec =? 1) (synchronizationChecks p len) (discoveryFramingChecks p len) in
+    let extended : Every P (extendedChecks n p) =
+    every-++ P (headChecks Four framing p ++ kindChecks n len vec) body kind
+    (choice (Every P) (vec =? 1) (synchronizationChecks p len) (discoveryFramingChecks p len) (λ h. sync) (λ f. disc)) in
+    every-++ P (preambleChecks d ++ rootChecks E2018 (rootPart d)) (framingChecks d) outer
+    (choice (Every P) (rootVector d =? 4) (dataChecks E2018 p) (extendedChecks n p) (λ h. values) (λ f. extended))
 
--- A test of every check's refusal, of those that are told by name, is computed.
-abbrev pub every : (Refusal → Test) → List Check → Bool
-every t [] = true
-every t (c ∷ cs) = pick (outcome (t (c .otherwise))) (every t cs) false
-
-pub computed : (t : Refusal → Test) (cs : List Check) → every t cs ≡ true → Every (λ (r : Refusal). Holds (t r)) cs
-computed t [] e = tt
-computed t (c ∷ cs) e = by (outcome (t (c .otherwise))) (fact (t (c .otherwise))) (computed t cs) e
-  where
-    by : (o : Bool) → Fact o (t (c .otherwise)) → (every t cs ≡ true → Every (λ (r : Refusal). Holds (t r)) cs) →
-        pick o (every t cs) false ≡ true → Holds (t (c .otherwise)) × Every (λ (r : Refusal). Holds (t r)) cs
-    by true h rest e = (h, rest e)
-    by false f rest e = let z : _≡_ {A = ℕ} 0 1 = cc in absurd (omega arith)
+-- What is so of every check's refusal, and of the record of each kind, is so of the answer.
+pub each-answer : (P : Packet → Type 0) (d : List ℕ) →
+    let p = framingPart d in
+    Every (λ (r : Refusal). P (Refused r)) (packetChecks d) →
+    P (Data (dataRecord p)) →
+    P (Synchronization (synchronizationRecord p)) →
+    P (Discovery (discoveryRecord p)) →
+    P (packetOf d)
+unfolding packetOf
+each-answer P d checks values sync disc =
+    let p = framingPart d in
+    always Refused P (packetChecks d) (recordOf d) checks
+    (choice P (rootVector d =? 4) (Data (dataRecord p)) (extendedRecord p) (λ h. values)
+    (λ f. choice P (vectorOf Four p =? 1) (Synchronization (synchronizationRecord p)) (Discovery (discoveryRecord p)) (λ h. sync) (λ f. disc)))
 
 -- All checks of a datagram tell what document 01's table has.
 abbrev Allowed : Refusal → Type 0
 Allowed r = Holds (allowed r)
 
-front : (cs ds : List Check) → every allowed cs ≡ true → Every Allowed ds → Every Allowed (cs ++ ds)
-front cs ds e h = every-++ Allowed cs ds (computed allowed cs e) h
-
-neighbours : (u : ℕ) (us : List ℕ) → Every Allowed (pairsFrom ascends u us)
-neighbours u [] = tt
-neighbours u (v ∷ vs) = front (ascends u v) (pairsFrom ascends v vs) refl (neighbours v vs)
-
-ascending : (us : List ℕ) → Every Allowed (pairs ascends us)
-ascending [] = tt
-ascending (u ∷ us) = neighbours u us
-
-listed : (p : List ℕ) (count : ℕ) → Every Allowed (listChecks p count)
-listed p count =
-    front (check (2 * count ≤? length p) (refusal 1 universeList 0) ∷ []) (pairs ascends (universes count p)) refl (ascending (universes count p))
-
-discovered : (p : List ℕ) (len : ℕ) → Every Allowed (discoveryFramingChecks p len)
-discovered p len =
-    let q = discoveryPart p len in
-    let framed = discoveryFraming.startChecks p len ++ sourceNameChecks (nameField p) in
-    let own = headChecks Four discovery q ++ discoveryLayer.ownChecks q (lengthOf q) (vectorOf Four q) in
-    front (framed ++ own) (listChecks (listPart q) (countIn (lengthOf q))) refl (listed (listPart q) (countIn (lengthOf q)))
-
-extended-tabled : (n : ℕ) (p : List ℕ) → Every Allowed (extendedChecks n p)
-extended-tabled n p =
-    let len = lengthOf p in
-    let vec = vectorOf Four p in
-    let sync = synchronizationChecks p len in
-    let disc = discoveryFramingChecks p len in
-    front (headChecks Four framing p ++ kindChecks n len vec) (choose (vec =? 1) sync disc) refl
-    (choice (Every Allowed) (vec =? 1) sync disc (λ h. computed allowed sync refl) (λ f. discovered p len))
-
 tabled : (d : List ℕ) → Every Allowed (packetChecks d)
 tabled d =
+    let r = rootPart d in
     let p = framingPart d in
-    let n = length (rootPart d) in
-    front (preambleChecks d ++ rootChecks E2018 (rootPart d)) (framingChecks d) refl
-    (choice (Every Allowed) (rootVector d =? 4) (dataChecks E2018 p) (extendedChecks n p)
-    (λ h. computed allowed (dataChecks E2018 p) refl)
-    (λ f. extended-tabled n p))
+    let len = lengthOf p in
+    let q = discoveryPart p len in
+    let us = universes (countIn (lengthOf q)) (listPart q) in
+    each-check Allowed d
+    (computed allowed (preambleChecks d ++ rootChecks E2018 r) refl)
+    (computed allowed (dataChecks E2018 p) refl)
+    (computed allowed (headChecks Four framing p ++ kindChecks (length r) len (vectorOf Four p)) refl)
+    (computed allowed (synchronizationChecks p len) refl)
+    (computed allowed (discoveryFraming.startChecks p len ++ sourceNameChecks (nameField p)) refl)
+    (computed allowed (headChecks Four discovery q ++ discoveryLayer.ownChecks q (lengthOf q) (vectorOf Four q)) refl)
+    (fact (allowed (refusal 1 universeList 0)))
+    (λ i. fact (allowed (refusal 12 universeList (getD us i 0))))
 
 abbrev Told : Packet → Type 0
 Told (Data x) = Unit {0}
@@ -206,11 +211,6 @@ Told (Refused r) = Allowed r
 
 -- A refusal has a number and a place of document 01's table, and the value 0 where the table names none.
 pub refusals : (d : List ℕ) (r : Refusal) → packetOf d ≡ Refused r → Holds (allowed r)
-unfolding packetOf
 refusals d r e =
-    let p = framingPart d in
-    let answer : Told (packetOf d) =
-    always Refused Told (packetChecks d) (recordOf d) (tabled d)
-    (choice Told (rootVector d =? 4) (Data (dataRecord p)) (extendedRecord p) (λ h. tt)
-    (λ f. choice Told (vectorOf Four p =? 1) (Synchronization (synchronizationRecord p)) (Discovery (discoveryRecord p)) (λ h. tt) (λ f. tt))) in
+    let answer : Told (packetOf d) = each-answer Told d (tabled d) tt tt tt in
     rw e at answer

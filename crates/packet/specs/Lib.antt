@@ -1,2 +1,3 @@
 pub mod Packet
 pub mod Table
+pub mod Sizes

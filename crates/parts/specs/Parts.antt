@@ -9,6 +9,7 @@ use Rattle.packet.specs.Packet.{place, packetOf}
 use Rattle.packet.specs.declared.Place.{Place}
 use Rattle.packet.specs.declared.Packet.{Packet}
 use Rattle.packet.specs.declared.Packet.the-variants.{Data, Synchronization, Discovery, Refused}
+use Rattle.parts.specs.declared.Places.{Places}
 use Rattle.parts.specs.declared.Copied.{Copied}
 use Rattle.parts.specs.declared.Copied.the-variants as copied
 
@@ -31,6 +32,9 @@ valuesPlace (Data x) = x .values
 valuesPlace (Synchronization x) = nowherePlace
 valuesPlace (Discovery x) = nowherePlace
 valuesPlace (Refused r) = nowherePlace
+
+abbrev pub placesOf : Packet → Places
+placesOf x = record { name = namePlace x; values = valuesPlace x }
 
 abbrev pub universesPlace : Packet → Place
 universesPlace (Data x) = nowherePlace

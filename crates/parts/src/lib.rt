@@ -10,7 +10,12 @@ ghost use mathlib.Core.Path.{_≡_};
 ghost use lib.ListN.{length};
 ghost use Rattle.refusal.specs.Check.{refusal, nowhere};
 ghost use Rattle.packet.specs.Packet.{packetOf};
-ghost use Rattle.parts.specs.Parts.{shownAt, namePlace, valuesPlace, copiedOf, listedAt, universesIn, afterCopy};
+ghost use Rattle.parts.specs.Parts.{shownAt, namePlace, valuesPlace, placesOf, copiedOf, listedAt, universesIn, afterCopy};
+
+pub struct Places {
+    pub name: Place,
+    pub values: Place,
+}
 
 pub enum Copied {
     Universes { count: usize },
@@ -45,6 +50,17 @@ fn values_place(packet: Packet) -> Place
         Packet::Discovery(_) => Place { start: 0, len: 0 },
         Packet::Synchronization(_) => Place { start: 0, len: 0 },
         Packet::Refused(_) => Place { start: 0, len: 0 },
+    }
+}
+
+// Reads a datagram, whatever it is, and gives the places that were found.
+pub fn places_in(datagram: &[u8]) -> Places
+    ensures { λ r. ⌜ r ≡ placesOf (packetOf (now (datagram .entry))) ⌝ }
+{
+    let packet = packet::parse_packet(datagram);
+    Places {
+        name: name_place(packet),
+        values: values_place(packet),
     }
 }
 

@@ -6,7 +6,6 @@ mod write;
 
 use entries::Next;
 use entries::State;
-use entries::Unread;
 ghost use Prim.Native.Nat.{_<_};
 
 // The requests.
@@ -74,15 +73,15 @@ fn turn(block: &mut [u8], entry: &mut [u8], out: &mut [u8], state: State, n: u64
 {
     let unread = state.unread;
     let at = state.at;
-    let step = entries::next_entry(block, entry, unread);
+    let step = entries::next_entry(block, entry, unread, state.heard);
     let next = step.next;
     match next {
         Next::Entry { len } => {
             let end = put_answer(out, at, n + 1, wire::part(entry, 0, len));
-            entries::go_on(out, end, step.unread)
+            entries::go_on(out, end, step.unread, step.heard, state.wrote)
         }
-        Next::Stop(ending) => entries::finish(out, at, ending, n),
-        Next::Failed => entries::give_up(out, at),
+        Next::Stop(ending) => entries::finish(out, at, ending, n, step.heard, state.wrote),
+        Next::Failed => entries::give_up(out, at, step.heard, state.wrote),
     }
 }
 
@@ -90,11 +89,7 @@ fn main() {
     let mut block = [0; BLOCK];
     let mut entry = [0; LONGEST_ENTRY];
     let mut out = [0; BLOCK];
-    let mut state = State {
-        unread: Unread { start: 0, len: 0 },
-        at: 0,
-        going: true,
-    };
+    let mut state = entries::begin();
     let mut n = 0;
     while state.going && n < MOST_ENTRIES {
         state = turn(&mut block, &mut entry, &mut out, state, n);

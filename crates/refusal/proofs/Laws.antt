@@ -1,10 +1,11 @@
--- Laws of `reading`, said once for every layer: which check decides, that all held, lists that are joined, and that an answer is unique.
--- Assumes nothing.
+-- Laws of `reading`, said once for every layer: which check decides, that all held, lists that are joined, that an answer is unique, and what
+-- every check of a list tells. Assumes nothing.
 use Prim.Native.Nat.{ℕ, zero, suc}
 use mathlib.Core.Path.{_≡_, refl, sym, ap, _∙_}
 use mathlib.Core.List.{List, [], _∷_, _++_}
 use mathlib.Core.Bool.{Bool, true, false}
 use mathlib.Core.Logic.{_⊎_, inl, inr, ⊎-elim}
+use native.Mathlib.Omega.{arith}
 use Rattle.refusal.specs.declared.Refusal.{Refusal}
 use Rattle.refusal.specs.declared.Checked.{Checked}
 use Rattle.refusal.specs.declared.Checked.the-variants as checked
@@ -167,3 +168,22 @@ all-front (c ∷ cs) ds h = (h .0, all-front cs ds (h .1))
 pub all-back : (cs ds : List Check) → All (cs ++ ds) → All ds
 all-back [] ds h = h
 all-back (c ∷ cs) ds h = all-back cs ds (h .1)
+
+-- every check of two lists, joined
+pub every-++ : (P : Refusal → Type 0) (cs ds : List Check) → Every P cs → Every P ds → Every P (cs ++ ds)
+every-++ P [] ds h k = k
+every-++ P (c ∷ cs) ds h k = (h .0, every-++ P cs ds (h .1) k)
+
+-- a test of every check's refusal, of those that are told by name, is computed
+abbrev pub every : (Refusal → Test) → List Check → Bool
+every t [] = true
+every t (c ∷ cs) = pick (outcome (t (c .otherwise))) (every t cs) false
+
+pub computed : (t : Refusal → Test) (cs : List Check) → every t cs ≡ true → Every (λ (r : Refusal). Holds (t r)) cs
+computed t [] e = tt
+computed t (c ∷ cs) e = by (outcome (t (c .otherwise))) (fact (t (c .otherwise))) (computed t cs) e
+  where
+    by : (o : Bool) → Fact o (t (c .otherwise)) → (every t cs ≡ true → Every (λ (r : Refusal). Holds (t r)) cs) →
+        pick o (every t cs) false ≡ true → Holds (t (c .otherwise)) × Every (λ (r : Refusal). Holds (t r)) cs
+    by true h rest e = (h, rest e)
+    by false f rest e = let z : _≡_ {A = ℕ} 0 1 = cc in absurd (omega arith)

@@ -1,65 +1,71 @@
 -- The demand on returned records, of a write's answer p, the buffer and what is read or copied after it. Assumes nothing.
 use Prim.Native.Nat.{ℕ, _≤_}
-use mathlib.Core.Path.{_≡_, ap, ap₂, _∙_}
+use mathlib.Core.Path.{_≡_, ap, _∙_}
 use mathlib.Core.List.{List, _++_}
 use lib.ListN.{length, drop}
 use Rattle.discovery.specs.declared.DiscoveryFields.{DiscoveryFields}
-use Rattle.framing.specs.declared.data.DataFields.{DataFields}
-use Rattle.packet.specs.Packet.{packetOf, readingOf}
-use Rattle.parts.specs.Parts.{copiedOf, universesIn, afterCopy}
 use Rattle.parts.specs.declared.Copied.{Copied}
 use Rattle.parts.specs.declared.Copied.the-variants as copied
-use Rattle.packet.specs.declared.Reading.{Reading}
-use Rattle.pack.specs.Writing.{dataBytes, dataLength, dataWriteChecks, discoveryBytes, discoveryLength, discoveryWriteChecks, packedOf, afterPack}
+use Rattle.pack.specs.Writing.{discoveryBytes, discoveryLength, afterPack}
 use Rattle.pack.specs.declared.Packed.{Packed}
 use Rattle.pack.specs.declared.Packed.the-variants.{Length}
-use Rattle.demands.specs.Content.{contentOf, dataContent}
-use Rattle.demands.specs.Limits.{ReadableData, ReadableDiscovery}
-use Rattle.demands.proofs.Data.{return-data}
+use Rattle.demands.specs.Limits.{ReadableDiscovery}
 use Rattle.demands.proofs.Discovery.{return-discovery, copied-discovery}
-use Rattle.trip.specs.Trip.{readAfter, copiedAfter, outAfter}
+use Rattle.trip.specs.Trip.{discoveryPacked, discoveryLeft, copiedAfter, outAfter}
 
-module _ (cid : List ℕ) (f : DataFields) (name values buf exit : List ℕ) (p : Packed) (r : Reading) where
-  abbrev dataPacked : Packed
-  dataPacked = packedOf (dataWriteChecks (length buf) name values) (dataLength values)
+-- What a call promises that writes, and then goes on by the write's answer p, which is `packed`: its own answer r and the buffer at exit, and
+-- what was demanded of what is `seen` of the two. A and B are the readable limits and the room: with them the write is accepted.
+pub trip : {R S A B : Type 0} {packed p : Packed} {n : ℕ} {exit : List ℕ} {r : R} {s : S} (after : Packed → List ℕ → R) (seen : List ℕ → R → S)
+    (packet buf : List ℕ) →
+    p ≡ packed → exit ≡ afterPack p packet buf → r ≡ after p exit →
+    (A → B → (packed ≡ Length n) × (let d = afterPack (Length n) packet buf in seen d (after (Length n) d) ≡ s)) →
+    (r ≡ after packed exit) × (exit ≡ afterPack packed packet buf) × (A → B → seen exit r ≡ s)
+trip {packed = packed} {n = n} {exit = exit} {r = r} after seen packet buf e x y demand =
+    let left : exit ≡ afterPack packed packet buf = x ∙ ap (λ (q : Packed). afterPack q packet buf) e in
+    let answer : r ≡ after packed exit = y ∙ ap (λ (q : Packed). after q exit) e in (
+      answer,
+      left,
+      λ a b.
+          let w = demand a b in
+          let written : exit ≡ afterPack (Length n) packet buf = left ∙ ap (λ (q : Packed). afterPack q packet buf) (w .0) in
+          rw (answer, w .0, written) (w .1),
+    )
 
-  pub data-returned : p ≡ dataPacked → exit ≡ afterPack p (dataBytes cid f name values) buf → r ≡ readAfter p exit →
-      (r ≡ readAfter dataPacked exit)
-      × (exit ≡ afterPack dataPacked (dataBytes cid f name values) buf)
-      × (ReadableData cid f name values → dataLength values ≤ length buf → contentOf exit r ≡ dataContent cid f name values)
-  data-returned e x y = (
-    y ∙ ap (λ (q : Packed). readAfter q exit) e,
-    x ∙ ap (λ (q : Packed). afterPack q (dataBytes cid f name values) buf) e,
-    λ h k.
-        let w = return-data cid f name values buf h k in
-        let q : p ≡ Length (dataLength values) = e ∙ w .0 in
-        let written : exit ≡ afterPack (Length (dataLength values)) (dataBytes cid f name values) buf =
-        x ∙ ap (λ (q : Packed). afterPack q (dataBytes cid f name values) buf) q in
-        let read : r ≡ readingOf exit = y ∙ ap (λ (q : Packed). readAfter q exit) q in
-        ap (contentOf exit) read ∙ ap (λ (d : List ℕ). contentOf d (readingOf d)) written ∙ w .1,
-  )
+-- The same for the universes that are copied out of the buffer into `out`, which is `numbers` at exit.
+module _ (cid : List ℕ) (f : DiscoveryFields) (name us buf out : List ℕ) where
+  abbrev after : Packed → List ℕ → Copied
+  after q d = copiedAfter q d (length out)
 
-module _ (cid : List ℕ) (f : DiscoveryFields) (name us buf exit out numbers : List ℕ) (p : Packed) (r : Copied) where
-  abbrev discoveryPacked : Packed
-  discoveryPacked = packedOf (discoveryWriteChecks (length buf) name us) (discoveryLength us)
+  -- the answer, and the numbers with it
+  abbrev filled : List ℕ → Copied → Copied × List ℕ
+  filled d c = (c, outAfter c d out)
 
-  pub discovery-returned : p ≡ discoveryPacked → exit ≡ afterPack p (discoveryBytes cid f name us) buf →
+  -- the theorems on a written discovery packet, as `trip` asks for them
+  accepted : ReadableDiscovery cid f name us → (discoveryLength us ≤ length buf) × (length us ≤ length out) →
+      let n = Length (discoveryLength us) in
+      let d = afterPack n (discoveryBytes cid f name us) buf in
+      (discoveryPacked buf name us ≡ n) × (filled d (after n d) ≡ (copied.Universes (length us), us ++ drop (length us) out))
+  accepted h k =
+      let d = afterPack (Length (discoveryLength us)) (discoveryBytes cid f name us) buf in
+      let w = copied-discovery cid f name us buf out h (k .0) (k .1) in
+      (return-discovery cid f name us buf h (k .0) .0, ap (filled d) (w .0) ∙ ap (λ (l : List ℕ). (copied.Universes (length us), l)) (w .1))
+
+  pub universes-trip : (exit numbers : List ℕ) (p : Packed) (r : Copied) →
+      p ≡ discoveryPacked buf name us → exit ≡ afterPack p (discoveryBytes cid f name us) buf →
       r ≡ copiedAfter p exit (length out) → numbers ≡ outAfter r exit out →
-      (r ≡ copiedAfter discoveryPacked exit (length out))
-      × (exit ≡ afterPack discoveryPacked (discoveryBytes cid f name us) buf)
+      (r ≡ copiedAfter (discoveryPacked buf name us) exit (length out))
+      × (exit ≡ discoveryLeft buf cid f name us)
       × (numbers ≡ outAfter r exit out)
-      × (ReadableDiscovery cid f name us → discoveryLength us ≤ length buf → length us ≤ length out → numbers ≡ us ++ drop (length us) out)
-  discovery-returned e x y z = (
-    y ∙ ap (λ (q : Packed). copiedAfter q exit (length out)) e,
-    x ∙ ap (λ (q : Packed). afterPack q (discoveryBytes cid f name us) buf) e,
-    z,
-    λ h k m.
-        let w = copied-discovery cid f name us buf out h k m in
-        let q : p ≡ Length (discoveryLength us) =
-        e ∙ (return-discovery cid f name us buf h k) .0 in
-        let written : exit ≡ afterPack (Length (discoveryLength us)) (discoveryBytes cid f name us) buf =
-        x ∙ ap (λ (q : Packed). afterPack q (discoveryBytes cid f name us) buf) q in
-        let read : r ≡ copiedOf (packetOf exit) (length out) = y ∙ ap (λ (q : Packed). copiedAfter q exit (length out)) q in
-        let whole : r ≡ copied.Universes (length us) = read ∙ ap (λ (d : List ℕ). copiedOf (packetOf d) (length out)) written ∙ w .0 in
-        z ∙ ap₂ (λ (c : Copied) (d : List ℕ). afterCopy c (universesIn d) out) whole written ∙ w .1,
-  )
+      × (ReadableDiscovery cid f name us →
+      discoveryLength us ≤ length buf →
+      length us ≤ length out →
+      (r ≡ copied.Universes (length us)) × (numbers ≡ us ++ drop (length us) out))
+  universes-trip exit numbers p r e x y z =
+      let t = trip after filled (discoveryBytes cid f name us) buf e x y accepted in (
+        t .0,
+        t .1,
+        z,
+        λ h k m.
+            let same = t .2 h (k, m) in
+            (ap (λ (x : Copied × List ℕ). x .0) same, z ∙ ap (λ (x : Copied × List ℕ). x .1) same),
+      )

@@ -1,73 +1,51 @@
-// A viewer keeps the lent datagram beside what was read from it, so that nobody shows the parts of one datagram by
-// the places of another. Its calls are thin: `parts` says what is shown.
-use packet::Reading;
-use parts::plain::Kind;
-use parts::plain::Plain;
+// A viewer keeps the lent datagram beside the places found in it, so that nobody shows the parts of one datagram by
+// the places of another. Its calls are thin: `parts` finds the places and says what is shown.
+use packet::Place;
 ghost use mathlib.Core.Path.{_≡_};
-ghost use Rattle.packet.specs.Packet.{readingOf};
-ghost use Rattle.view.specs.View.{shownName, shownValues, shownKind, shownPlain};
+ghost use Rattle.packet.specs.Packet.{packetOf};
+ghost use Rattle.parts.specs.Parts.{shownAt, namePlace, valuesPlace};
 
 pub struct Viewer<'a> {
-    pub datagram: &'a [u8],
-    pub reading: Reading,
+    datagram: &'a [u8],
+    name: Place,
+    values: Place,
 }
 
-// Reads a datagram, whatever it is, and keeps both.
+// Reads a datagram, whatever it is, and keeps it with the places found.
 pub fn view<'a>(datagram: &'a [u8]) -> Viewer<'a>
-    ensures { λ r. ⌜ (r .datagram ≡ datagram .entry) × (r .reading ≡ readingOf (now (datagram .entry))) ⌝ }
+    ensures { λ r. ⌜ (r .datagram ≡ datagram .entry) × (r .name ≡ namePlace (packetOf (now (datagram .entry)))) × (r .values ≡ valuesPlace (packetOf (now (datagram .entry)))) ⌝ }
 {
-    let reading = packet::parse(datagram);
-    Viewer { datagram, reading }
+    let places = parts::places_in(datagram);
+    Viewer {
+        datagram,
+        name: places.name,
+        values: places.values,
+    }
 }
 
 // The name, as the part of the datagram that it occupies; empty where there is none.
 pub fn name<'a>(viewer: Viewer<'a>) -> &'a [u8]
-    ensures { λ r. ⌜ now r ≡ shownName (now (viewer .entry .datagram)) (viewer .entry .reading) ⌝ }
+    ensures { λ r. ⌜ now r ≡ shownAt (now (viewer .entry .datagram)) (viewer .entry .name) ⌝ }
 {
-    parts::name(viewer.datagram, viewer.reading)
+    parts::shown(viewer.datagram, viewer.name)
 }
 
 // The values, likewise.
 pub fn values<'a>(viewer: Viewer<'a>) -> &'a [u8]
-    ensures { λ r. ⌜ now r ≡ shownValues (now (viewer .entry .datagram)) (viewer .entry .reading) ⌝ }
+    ensures { λ r. ⌜ now r ≡ shownAt (now (viewer .entry .datagram)) (viewer .entry .values) ⌝ }
 {
-    parts::values(viewer.datagram, viewer.reading)
-}
-
-pub fn kind<'a>(viewer: Viewer<'a>) -> Kind
-    ensures { λ r. ⌜ r ≡ shownKind (viewer .entry .reading) ⌝ }
-{
-    parts::plain::kind_of(viewer.reading)
-}
-
-// The CID and the plain fields, or the refusal.
-pub fn plain<'a>(viewer: Viewer<'a>) -> Plain
-    ensures { λ r. ⌜ r ≡ shownPlain (viewer .entry .reading) ⌝ }
-{
-    parts::plain::plain_of(viewer.reading)
+    parts::shown(viewer.datagram, viewer.values)
 }
 
 // What a datagram's viewer shows. A caller of these holds no viewer, so its own proof needs no walk.
 pub fn viewed_name(datagram: &[u8]) -> &[u8]
-    ensures { λ r. ⌜ now r ≡ shownName (now (datagram .entry)) (readingOf (now (datagram .entry))) ⌝ }
+    ensures { λ r. ⌜ now r ≡ shownAt (now (datagram .entry)) (namePlace (packetOf (now (datagram .entry)))) ⌝ }
 {
     name(view(datagram))
 }
 
 pub fn viewed_values(datagram: &[u8]) -> &[u8]
-    ensures { λ r. ⌜ now r ≡ shownValues (now (datagram .entry)) (readingOf (now (datagram .entry))) ⌝ }
+    ensures { λ r. ⌜ now r ≡ shownAt (now (datagram .entry)) (valuesPlace (packetOf (now (datagram .entry)))) ⌝ }
 {
     values(view(datagram))
-}
-
-pub fn viewed_kind(datagram: &[u8]) -> Kind
-    ensures { λ r. ⌜ r ≡ shownKind (readingOf (now (datagram .entry))) ⌝ }
-{
-    kind(view(datagram))
-}
-
-pub fn viewed_plain(datagram: &[u8]) -> Plain
-    ensures { λ r. ⌜ r ≡ shownPlain (readingOf (now (datagram .entry))) ⌝ }
-{
-    plain(view(datagram))
 }

@@ -1,5 +1,5 @@
-// What the viewer of a datagram shows, for a handful of datagrams: a line with the case, the kind and the CID, one
-// with the plain fields, and one with the name and the values.
+// What is read of a handful of datagrams: a line with the case, the kind and the CID, one with the plain fields, and
+// one with the name and the values as a viewer shows them.
 use discovery::DiscoveryFields;
 use extended::synchronization::SynchronizationFields;
 use framing::data::DataFields;
@@ -37,11 +37,12 @@ fn put_fields(out: &mut [u8], at: usize, fields: Fields) -> usize {
 
 fn show(words: &[u8], datagram: &[u8]) {
     let mut out = [0; LINE_ROOM];
-    let plain = view::viewed_plain(datagram);
+    let reading = packet::parse(datagram);
+    let plain = parts::plain::plain_of(reading);
     let cid = plain.cid;
     let fields = plain.fields;
     let at = text::put(&mut out, 0, words);
-    let at = put_kind(&mut out, at, view::viewed_kind(datagram));
+    let at = put_kind(&mut out, at, parts::plain::kind_of(reading));
     let at = text::put(&mut out, at, b" from ");
     let at = text::put_hex(&mut out, at, &cid);
     let at = text::put(&mut out, at, b"\n");

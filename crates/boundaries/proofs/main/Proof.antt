@@ -13,6 +13,9 @@ Inv-loop block₀ entry₀ out₀ state₀ n₀ block entry out state n = (lengt
 abbrev μ-loop : tie.MeasureT-loop
 μ-loop block₀ entry₀ out₀ state₀ n₀ block entry out state n = 0xffff_ffff_ffff_ffff - n
 
+begin-requires : tie.Need-begin-requires Inv-loop μ-loop
+begin-requires c κs = search needs
+
 loop-holds : tie.Need-loop-holds Inv-loop μ-loop
 loop-holds c = search needs
 
@@ -49,6 +52,7 @@ main-spec =
     (tie.spec
     Inv-loop
     μ-loop
+    begin-requires
     loop-holds
     slice-aggregate-turn
     slice-aggregate-turn-2

@@ -1,16 +1,22 @@
-use mathlib.Core.Path.{refl}
+use mathlib.Core.Path.{ap, _∙_}
 use borrow.Author.Needs.{needs}
+use Rattle.entries.specs.declared.system.Heard.{Heard}
+use Rattle.entries.proofs.Laws.{gave-up}
 use Rattle.entries.proofs.next_entry.Statement.{statement}
 use Rattle.entries.proofs.next_entry.Tie as tie
 
 fill-requires : tie.Need-fill-requires
 fill-requires c κs = search needs
 
+failed-requires : tie.Need-failed-requires
+failed-requires c κs = search needs
+
 same-length : tie.Need-same-length
 same-length c = search needs
 
 returns : tie.Need-returns
-returns c = (c .before .before .before .before .fill .ensures .0, refl)
+returns c = let filled = c .before .before .before .before .before .before .fill in
+    gave-up _ _ _ (c .before .before .before .before .before .before .before .before .before .before .args .before) (filled .result .heard) (filled .ensures .0) (filled .ensures .1) (cc)
 
 take-entry-requires : tie.Need-take-entry-requires
 take-entry-requires c κs = search needs
@@ -22,13 +28,19 @@ same-length-3 : tie.Need-same-length-3
 same-length-3 c = search needs
 
 returns-2 : tie.Need-returns-2
-returns-2 c = let m = c .before .before .before .before .before .before .before .before .before .fill .ensures in (m .0, rw (← m .1) (c .before .before .take-entry .ensures))
+returns-2 c = let filled = c .before .before .before .before .before .before .before .before .before .before .before .fill in
+    let m = filled .ensures .0 in
+    let taken = c .before .before .take-entry in
+    let same = taken .ensures .1 .1 in
+    let said = ap (λ (h : Heard). h .said) same in
+    (m .0, rw (← m .1) (taken .ensures .0), rw (said, ← m .1) (filled .ensures .1), rw said (taken .ensures .1 .0), ap (λ (h : Heard). h .total) same ∙ m .2, λ h. (m .3 h .0, said ∙ m .3 h .1))
 
 pub next-entry-spec : {M : Type 1} → statement M
 next-entry-spec =
     tie.close
     (tie.spec
     fill-requires
+    failed-requires
     same-length
     returns
     take-entry-requires

@@ -1,23 +1,33 @@
-use Prim.Native.Nat.{_≤_, _<_, _-_}
-use mathlib.Core.Path.{_≡_, refl}
+use Prim.Native.Nat.{_≤_, _-_}
+use mathlib.Core.Path.{_≡_, refl, sym, ap, _∙_}
+use mathlib.Core.Bool.{true, false}
 use native.Mathlib.Omega.{arith}
 use borrow.Author.Needs.{needs}
 use denote.Ref.{now}
-use lib.ListN.{length, take}
-use Rattle.entries.specs.Entries.{More}
-use Rattle.entries.specs.declared.Arrival.the-variants as arrival
-use Rattle.entries.proofs.Laws.{none-more, more-then, arrive, front-part}
+use mathlib.Core.List.{[], append-nil}
+use lib.ListN.{length, take, drop}
+use Rattle.capture.specs.Entry.{frontOf}
+use Rattle.capture.specs.declared.Front.the-variants as front
+use Rattle.entries.specs.System.{counted, reachedBy}
+use Rattle.entries.specs.declared.system.Heard.{Heard}
+use Rattle.entries.specs.Entries.{waitsAt, More, Enough}
+use Rattle.entries.proofs.Laws.{quiet-none, after-quiet, more-then, arrive, arrive-long, front-part, no-more, some-more, stops-at}
 use Rattle.entries.proofs.read_entry.Statement.{statement}
 use Rattle.entries.proofs.read_entry.Tie as tie
 
 abbrev Inv-loop : tie.InvT-loop
-Inv-loop block₀ len len₀ block len' = (len' ≤ length block) × (length block ≡ length block₀) × More (take len block₀) (take len' block)
+Inv-loop block₀ len len₀ heard₀ block len' heard =
+    (len' ≤ length block) × (length block ≡ length block₀) × More (take len block₀) (take len' block) heard₀ heard × Enough (heard .said) front.Bad
 
 abbrev μ-loop : tie.MeasureT-loop
-μ-loop block₀ len len₀ block len' = length block₀ - len'
+μ-loop block₀ len len₀ heard₀ block len' heard = length block₀ - len'
+
+quiet-requires : tie.Need-quiet-requires Inv-loop μ-loop
+quiet-requires c κs = search needs
 
 loop-holds : tie.Need-loop-holds Inv-loop μ-loop
-loop-holds c = (omega arith, refl, none-more _)
+loop-holds c = let quiet = c .quiet .ensures in
+    (omega arith, refl, quiet-none _ (c .before .before .args .before) (c .quiet .result) quiet, rw quiet refl)
 
 sub-waits : tie.Need-sub-waits Inv-loop μ-loop
 sub-waits c = omega arith
@@ -32,53 +42,65 @@ waits-requires : tie.Need-waits-requires Inv-loop μ-loop
 waits-requires c κs = search needs
 
 read-more-requires : tie.Need-read-more-requires Inv-loop μ-loop
-read-more-requires c κs = omega arith
+read-more-requires c κs = search needs
 
-enum-known-more : tie.Need-enum-known-more Inv-loop μ-loop
-enum-known-more c = search needs
-
-loop-less : tie.Need-loop-less Inv-loop μ-loop
-loop-less c = let l = c .before .before .before .before .before .before .before .before .before .before .before .loop in
-    let m = c .before .more .given .0 .0 in
-    let e : c .before .before .before .before .before .read-more .result ≡ arrival.Bytes m = cc in
-    let a : (l .len < m) × (m ≤ length (l .block)) = rw e at (c .before .before .before .before .before .read-more .ensures .1) in
-    omega arith
-
-loop-again : tie.Need-loop-again Inv-loop μ-loop
-loop-again c = let l = c .before .before .before .before .before .before .before .before .before .before .before .loop in
-    let m = c .before .more .given .0 .0 in
-    let e : c .before .before .before .before .before .read-more .result ≡ arrival.Bytes m = cc in
-    let a : (l .len < m) × (m ≤ length (l .block)) = rw e at (c .before .before .before .before .before .read-more .ensures .1) in
-    (omega arith, omega arith, more-then (take (c .before .before .before .before .before .before .before .before .before .before .before .before .before .args .len) (now (c .before .before .before .before .before .before .before .before .before .before .before .before .before .args .block))) (take (l .len) (l .block)) (take m (c .before .before .before .before .before .read-more .last .0)) (l .inv .2) (arrive (l .block) (c .before .before .before .before .before .read-more .last .0) (l .len) m (omega arith) (c .before .before .before .before .before .read-more .ensures .0)))
-
-enum-told : tie.Need-enum-told Inv-loop μ-loop
-enum-told c = search needs
+reached-requires : tie.Need-reached-requires Inv-loop μ-loop
+reached-requires c κs = search needs
 
 same-length : tie.Need-same-length Inv-loop μ-loop
 same-length c = search needs
 
 returns : tie.Need-returns Inv-loop μ-loop
 returns c = let l = c .before .before .before .before .before .before .before .before .before .before .loop in
-    let m = c .before .before .before .before .read-more .last .0 in
-    rw (front-part m (l .len) (omega arith), c .before .before .before .before .read-more .ensures .0) (l .inv .2)
+    let a = c .before .before .before .before .before .before .before .before .before .before .before .before .before .args in
+    let read = c .before .before .before .before .read-more in
+    let z : l .len - 0 ≡ l .len = omega arith in
+    let here = frontOf (take (l .len) (l .block)) in
+    let waits : waitsAt here ≡ true = rw z at (sym (c .before .before .before .before .before .before .before .waits .ensures) ∙ c .before .before .before .before .before .before .if1 .taken) in
+    let m = read .last .0 in
+    let quiet = c .before .before .before .before .before .before .before .before .before .before .before .quiet in
+    let stuck : reachedBy (read .result .said) (l .len) ≤ l .len = omega (arith, c .before .reached .ensures) in
+    let none : reachedBy (read .result .said) (l .len) - l .len ≡ 0 = omega arith in
+    rw (front-part m (l .len) (omega arith), read .ensures .0) (
+      after-quiet (take (a .len) (now (a .block))) (take (l .len) (l .block)) (a .before) (quiet .result) (read .result) (quiet .ensures)
+          (more-then (take (a .len) (now (a .block))) (take (l .len) (l .block)) (take (l .len) (l .block)) (quiet .result) (l .heard) (read .result) (l .inv .2) waits
+          [] (sym (append-nil (take (l .len) (l .block)))) (ap (λ (h : Heard). h .total) (read .ensures .1 .1) ∙ ap (counted (l .heard .total)) none)),
+      no-more (read .result .said) (l .len) (length (l .block)) here (read .ensures .1 .0) stuck waits,
+    )
 
-enum-told-2 : tie.Need-enum-told-2 Inv-loop μ-loop
-enum-told-2 c = search needs
+loop-less : tie.Need-loop-less Inv-loop μ-loop
+loop-less c = let l = c .before .before .before .before .before .before .before .before .before .before .loop in
+    let said = c .before .before .before .before .read-more .result .said in
+    let some = some-more said (l .len) (length (l .block)) front.Bad (c .before .before .before .before .read-more .ensures .1 .0) (omega (arith, c .before .reached .ensures)) refl in
+    omega (arith, some .0, c .before .reached .ensures)
+
+loop-again : tie.Need-loop-again Inv-loop μ-loop
+loop-again c = let l = c .before .before .before .before .before .before .before .before .before .before .loop in
+    let a = c .before .before .before .before .before .before .before .before .before .before .before .before .before .args in
+    let read = c .before .before .before .before .read-more in
+    let z : l .len - 0 ≡ l .len = omega arith in
+    let waits : waitsAt (frontOf (take (l .len) (l .block))) ≡ true = rw z at (sym (c .before .before .before .before .before .before .before .waits .ensures) ∙ c .before .before .before .before .before .before .if1 .taken) in
+    let m = c .before .reached .result in
+    let some = some-more (read .result .said) (l .len) (length (l .block)) front.Bad (read .ensures .1 .0) (omega (arith, c .before .reached .ensures)) refl in
+    let long : m ≤ length (read .last .0) = omega (arith, some .0, c .before .reached .ensures) in
+    let brought : reachedBy (read .result .said) (l .len) - l .len ≡ length (take (m - l .len) (drop (l .len) (read .last .0))) = omega (arith, c .before .reached .ensures, arrive-long (read .last .0) (l .len) m (omega arith) long) in (
+      omega (arith, some .0, c .before .reached .ensures),
+      omega arith,
+      more-then (take (a .len) (now (a .block))) (take (l .len) (l .block)) (take m (read .last .0)) (c .before .before .before .before .before .before .before .before .before .before .before .quiet .result) (l .heard) (read .result) (l .inv .2) waits
+          (take (m - l .len) (drop (l .len) (read .last .0))) (arrive (l .block) (read .last .0) (l .len) m (omega arith) (read .ensures .0)) (ap (λ (h : Heard). h .total) (read .ensures .1 .1) ∙ ap (counted (l .heard .total)) brought),
+      some .1,
+    )
 
 same-length-2 : tie.Need-same-length-2 Inv-loop μ-loop
 same-length-2 c = search needs
 
 returns-2 : tie.Need-returns-2 Inv-loop μ-loop
-returns-2 c = let l = c .before .before .before .before .before .before .before .before .before .before .loop in
-    let m = c .before .before .before .before .read-more .last .0 in
-    rw (front-part m (l .len) (omega arith), c .before .before .before .before .read-more .ensures .0) (l .inv .2)
-
-same-length-3 : tie.Need-same-length-3 Inv-loop μ-loop
-same-length-3 c = search needs
-
-returns-3 : tie.Need-returns-3 Inv-loop μ-loop
-returns-3 c = let l = c .before .before .before .before .loop in
-    rw (front-part (l .block) (l .len) (omega arith)) (l .inv .2)
+returns-2 c = let l = c .before .before .before .before .loop in
+    let z : l .len - 0 ≡ l .len = omega arith in
+    let quiet = c .before .before .before .before .before .quiet in
+    let here = frontOf (take (l .len) (l .block)) in
+    let rests : waitsAt here ≡ false = rw z at (sym (c .before .waits .ensures) ∙ c .if1 .left) in
+    rw (front-part (l .block) (l .len) (omega arith)) (after-quiet _ _ (c .before .before .before .before .before .before .before .args .before) (quiet .result) (l .heard) (quiet .ensures) (l .inv .2), stops-at (l .heard .said) front.Bad here (l .inv .3) refl rests)
 
 pub read-entry-spec : {M : Type 1} → statement M
 read-entry-spec =
@@ -86,20 +108,17 @@ read-entry-spec =
     (tie.spec
     Inv-loop
     μ-loop
+    quiet-requires
     loop-holds
     sub-waits
     part-waits-start
     part-waits-end
     waits-requires
     read-more-requires
-    enum-known-more
-    loop-less
-    loop-again
-    enum-told
+    reached-requires
     same-length
     returns
-    enum-told-2
+    loop-less
+    loop-again
     same-length-2
-    returns-2
-    same-length-3
-    returns-3)
+    returns-2)

@@ -7,8 +7,8 @@ use lib.ListN.{length}
 use Rattle.capture.specs.Entry.{frontOf}
 use Rattle.capture.specs.declared.Front.the-variants as front
 use Rattle.capture.proofs.Laws.{entry-within}
-use Rattle.entries.specs.Entries.{unreadIn}
-use Rattle.entries.proofs.Laws.{lies, rest-of-part}
+use Rattle.entries.specs.Entries.{unreadIn, waitsAt}
+use Rattle.entries.proofs.Laws.{lies, rest-of-part, ended}
 use Rattle.entries.proofs.take_entry.Statement.{statement}
 use Rattle.entries.proofs.take_entry.Tie as tie
 
@@ -91,16 +91,22 @@ returns c = let u = c .before .before .before .before .before .before .before .b
     let w = lies b (u .start) (u .len) (omega (arith, v .behind, v .inside)) in
     let size : length (c .before .before .before .before .before .before .before .before .before .part .result .now) ≡ length (unreadIn b u) = ap length (c .before .before .before .before .before .before .before .before .before .part .ensures) in
     let n : g .0 + g .1 .0 - g .0 ≡ g .1 .0 = omega arith in
-    (g .0, e, c .before .before .copy .ensures ∙ rw (n, c .before .before .before .before .before .before .before .before .before .part .ensures), rest-of-part b (u .start) (u .len) (g .0 + g .1 .0) (omega (arith, v .inside, w .size)) w)
+    ((g .0, e, c .before .before .copy .ensures ∙ rw (n, c .before .before .before .before .before .before .before .before .before .part .ensures), rest-of-part b (u .start) (u .len) (g .0 + g .1 .0) (omega (arith, v .inside, w .size)) w), (tt, refl))
 
 returns-2 : tie.Need-returns-2
-returns-2 c = (cc, refl)
+returns-2 c = ((cc, refl, refl), (tt, refl))
 
 returns-3 : tie.Need-returns-3
-returns-3 c = (cc, refl)
+returns-3 c = let s = c .before .before .before .before .before .before in
+    let x = frontOf (unreadIn (now (s .args .block)) (s .args .unread)) in
+    let e : x ≡ front.Cut = cc in
+    ((e, refl, refl), (ended (s .args .heard .said) x (s .pre .0) (s .pre .1) (ap waitsAt e), refl))
 
 returns-4 : tie.Need-returns-4
-returns-4 c = (cc, refl)
+returns-4 c = let s = c .before .before .before .before .before .before in
+    let x = frontOf (unreadIn (now (s .args .block)) (s .args .unread)) in
+    let e : x ≡ front.End = cc in
+    ((e, refl, refl), (ended (s .args .heard .said) x (s .pre .0) (s .pre .1) (ap waitsAt e), refl))
 
 pub take-entry-spec : {M : Type 1} → statement M
 take-entry-spec =
