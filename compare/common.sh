@@ -70,6 +70,6 @@ build_rattle() { # NAME...
 
 # Proves and builds what Rust and C link, and says where it is.
 build_archive() {
-    run_rt staticlib exports
+    run_rt staticlib ledgerwren
     export LEDGERWREN_LIB_DIR=$root/target/staticlib
 }

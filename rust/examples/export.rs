@@ -112,7 +112,8 @@ fn renamed(datagram: &[u8], names: &Names, buf: &mut [u8]) -> Result<Option<usiz
             .get(discovery.source_name)
             .map(|name| rename_discovery(buf, packet.cid, discovery, name))
             .transpose(),
-        PacketData::SynchronizationPacket(_) => Ok(None),
+        // Synchronization has no name; a kind that is not known here is handed on, too.
+        _ => Ok(None),
     }
 }
 

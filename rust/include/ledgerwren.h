@@ -1,12 +1,16 @@
 /*
  * E1.31 (streaming ACN) packets, read and written by proved code: what C calls.
- * Link libexports.a, x86-64 code for Linux, which `rt staticlib exports` makes.
+ * Link libledgerwren.a, x86-64 code for Linux, which `rt staticlib ledgerwren` makes.
+ *
+ * The number in the names of the calls is the version of this layout. It moves whenever a struct or a
+ * call changes, so that code compiled against another layout does not link.
  *
  * A pointer and the length behind it are one array: the length counts elements, and the pointer is
  * aligned and not null, also where the length is 0. What a call writes to overlaps nothing else that
  * it is given. A call returns on every input and keeps no pointer.
  *
- * The rules, the layout of packets and the refusals are those of the repository's papers.
+ * The layout of packets, and for each refusal its number, place and value and when it comes:
+ * docs/FORMAT.md in the repository.
  */
 #ifndef LEDGERWREN_H
 #define LEDGERWREN_H
@@ -68,7 +72,7 @@ typedef struct {
 typedef struct {
     size_t start;
     size_t len;
-} LedgerwrenPlace;
+} LedgerwrenSpan;
 
 typedef struct {
     uint8_t priority;
@@ -115,9 +119,9 @@ typedef struct {
     LedgerwrenDataFields data_fields;
     LedgerwrenSynchronizationFields synchronization_fields;
     LedgerwrenDiscoveryFields discovery_fields;
-    LedgerwrenPlace name;
-    LedgerwrenPlace values;
-    LedgerwrenPlace universes;
+    LedgerwrenSpan name;
+    LedgerwrenSpan values;
+    LedgerwrenSpan universes;
 } LedgerwrenFound;
 
 typedef struct {
@@ -125,8 +129,8 @@ typedef struct {
     uint8_t cid[16];
     LedgerwrenRefusal refusal;
     LedgerwrenDataFields2009 data_fields;
-    LedgerwrenPlace name;
-    LedgerwrenPlace values;
+    LedgerwrenSpan name;
+    LedgerwrenSpan values;
 } LedgerwrenFound2009;
 
 /* The plain part of a packet that is to be written. */
@@ -157,27 +161,27 @@ typedef struct {
 } LedgerwrenAddress;
 
 /* Reads a datagram; the second by the standard's edition of 2009, which has data packets only. */
-LedgerwrenFound ledgerwren_parse(const uint8_t *datagram, size_t datagram_len);
-LedgerwrenFound2009 ledgerwren_parse_2009(const uint8_t *datagram, size_t datagram_len);
+LedgerwrenFound ledgerwren1_parse(const uint8_t *datagram, size_t datagram_len);
+LedgerwrenFound2009 ledgerwren1_parse_2009(const uint8_t *datagram, size_t datagram_len);
 
 /* Copies the universes that a datagram lists to the front of out. At a refusal out is as found. */
-LedgerwrenOutcome ledgerwren_copy_universes(const uint8_t *datagram, size_t datagram_len,
-                                            uint16_t *out, size_t out_len);
+LedgerwrenOutcome ledgerwren1_copy_universes(const uint8_t *datagram, size_t datagram_len,
+                                             uint16_t *out, size_t out_len);
 
 /* Write a packet to the front of buf, and leave the rest as found. At a refusal all is as found. */
-LedgerwrenOutcome ledgerwren_pack_data(uint8_t *buf, size_t buf_len, LedgerwrenDataHeader header,
-                                       const uint8_t *name, size_t name_len,
-                                       const uint8_t *values, size_t values_len);
-LedgerwrenOutcome ledgerwren_pack_synchronization(uint8_t *buf, size_t buf_len,
-                                                  LedgerwrenSynchronizationHeader header);
-LedgerwrenOutcome ledgerwren_pack_discovery(uint8_t *buf, size_t buf_len,
-                                            LedgerwrenDiscoveryHeader header,
-                                            const uint8_t *name, size_t name_len,
-                                            const uint16_t *universes, size_t universes_len);
+LedgerwrenOutcome ledgerwren1_pack_data(uint8_t *buf, size_t buf_len, LedgerwrenDataHeader header,
+                                        const uint8_t *name, size_t name_len,
+                                        const uint8_t *values, size_t values_len);
+LedgerwrenOutcome ledgerwren1_pack_synchronization(uint8_t *buf, size_t buf_len,
+                                                   LedgerwrenSynchronizationHeader header);
+LedgerwrenOutcome ledgerwren1_pack_discovery(uint8_t *buf, size_t buf_len,
+                                             LedgerwrenDiscoveryHeader header,
+                                             const uint8_t *name, size_t name_len,
+                                             const uint16_t *universes, size_t universes_len);
 
 /* Say whether a universe may be sent on, and to which IPv4 address and port. */
-LedgerwrenRefusal ledgerwren_is_universe_in_range(uint16_t universe);
-LedgerwrenAddress ledgerwren_universe_to_ipv4_multicast_addr(uint16_t universe);
+LedgerwrenRefusal ledgerwren1_is_universe_in_range(uint16_t universe);
+LedgerwrenAddress ledgerwren1_universe_to_ipv4_multicast_addr(uint16_t universe);
 
 #ifdef __cplusplus
 }

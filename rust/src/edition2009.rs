@@ -5,6 +5,7 @@ use crate::{Cid, Refusal};
 
 /// A data packet as the edition of 2009 knows it: without synchronization.
 #[derive(Clone, Copy, PartialEq, Eq, Hash, Debug)]
+#[non_exhaustive]
 pub struct DataPacket2009<'a> {
     /// The sender's CID.
     pub cid: Cid,

@@ -3,9 +3,10 @@
 //!
 //! Taken on trust here, and nowhere else:
 //!
-//! - The declarations are those of `crates/exports/src/lib.rt` and of the structs that it names, most
-//!   in `crates/flat/src/lib.rt`. Nothing in a linker checks that; the test `header` compares them,
-//!   and the other tests see a different value in every field.
+//! - The declarations are those of `crates/ledgerwren/src/lib.rt` and of the structs that it names,
+//!   most in `crates/c_answers/src/lib.rt`. Of that a linker checks the names alone, and with them the
+//!   layout's version; the test `header` compares the rest, and the other tests see a different value
+//!   in every field.
 //! - A call reads and writes within the lengths it is given, keeps no pointer, and returns. That is
 //!   proved, for every input, of the code behind it.
 //! - The name that the reader finds is well-formed UTF-8. That is proved, too, by Unicode's table; a
@@ -22,7 +23,7 @@ pub(crate) const DISCOVERY: u8 = 3;
 
 #[repr(C)]
 #[derive(Clone, Copy)]
-pub(crate) struct Place {
+pub(crate) struct Span {
     start: usize,
     len: usize,
 }
@@ -80,9 +81,9 @@ pub(crate) struct Found {
     pub(crate) data_fields: DataFields,
     pub(crate) synchronization_fields: SynchronizationFields,
     pub(crate) discovery_fields: DiscoveryFields,
-    name: Place,
-    values: Place,
-    universes: Place,
+    name: Span,
+    values: Span,
+    universes: Span,
 }
 
 #[repr(C)]
@@ -91,8 +92,8 @@ pub(crate) struct Found2009 {
     pub(crate) cid: [u8; 16],
     pub(crate) refusal: Refusal,
     pub(crate) data_fields: DataFields2009,
-    name: Place,
-    values: Place,
+    name: Span,
+    values: Span,
 }
 
 #[repr(C)]
@@ -125,16 +126,19 @@ struct Address {
     address: Ipv4Address,
 }
 
+// The unit tests call none of these, and so need no library: where there is none, it is rustc that
+// misses it, in one line, and no linker.
+#[cfg_attr(not(test), link(name = "ledgerwren", kind = "static"))]
 extern "C" {
-    fn ledgerwren_parse(datagram: *const u8, datagram_len: usize) -> Found;
-    fn ledgerwren_parse_2009(datagram: *const u8, datagram_len: usize) -> Found2009;
-    fn ledgerwren_copy_universes(
+    fn ledgerwren1_parse(datagram: *const u8, datagram_len: usize) -> Found;
+    fn ledgerwren1_parse_2009(datagram: *const u8, datagram_len: usize) -> Found2009;
+    fn ledgerwren1_copy_universes(
         datagram: *const u8,
         datagram_len: usize,
         out: *mut u16,
         out_len: usize,
     ) -> Outcome;
-    fn ledgerwren_pack_data(
+    fn ledgerwren1_pack_data(
         buf: *mut u8,
         buf_len: usize,
         header: DataHeader,
@@ -143,12 +147,12 @@ extern "C" {
         values: *const u8,
         values_len: usize,
     ) -> Outcome;
-    fn ledgerwren_pack_synchronization(
+    fn ledgerwren1_pack_synchronization(
         buf: *mut u8,
         buf_len: usize,
         header: SynchronizationHeader,
     ) -> Outcome;
-    fn ledgerwren_pack_discovery(
+    fn ledgerwren1_pack_discovery(
         buf: *mut u8,
         buf_len: usize,
         header: DiscoveryHeader,
@@ -157,8 +161,8 @@ extern "C" {
         universes: *const u16,
         universes_len: usize,
     ) -> Outcome;
-    fn ledgerwren_is_universe_in_range(universe: u16) -> Refusal;
-    fn ledgerwren_universe_to_ipv4_multicast_addr(universe: u16) -> Address;
+    fn ledgerwren1_is_universe_in_range(universe: u16) -> Refusal;
+    fn ledgerwren1_universe_to_ipv4_multicast_addr(universe: u16) -> Address;
 }
 
 impl Outcome {
@@ -168,44 +172,44 @@ impl Outcome {
     }
 }
 
-/// The places that both readers answer.
-pub(crate) trait Places {
-    fn name(&self) -> Place;
-    fn values(&self) -> Place;
+/// The spans that both readers answer.
+pub(crate) trait Spans {
+    fn name(&self) -> Span;
+    fn values(&self) -> Span;
 }
 
-impl Places for Found {
+impl Spans for Found {
     #[inline]
-    fn name(&self) -> Place {
+    fn name(&self) -> Span {
         self.name
     }
 
     #[inline]
-    fn values(&self) -> Place {
+    fn values(&self) -> Span {
         self.values
     }
 }
 
-impl Places for Found2009 {
+impl Spans for Found2009 {
     #[inline]
-    fn name(&self) -> Place {
+    fn name(&self) -> Span {
         self.name
     }
 
     #[inline]
-    fn values(&self) -> Place {
+    fn values(&self) -> Span {
         self.values
     }
 }
 
 /// What a reader found in a datagram, beside that datagram. Only `parse` and `parse_2009` make one and
-/// nobody changes it, so the places are those of this datagram.
+/// nobody changes it, so the spans are those of this datagram.
 pub(crate) struct Reading<'a, F> {
     datagram: &'a [u8],
     found: F,
 }
 
-impl<'a, F: Places> Reading<'a, F> {
+impl<'a, F: Spans> Reading<'a, F> {
     #[inline]
     pub(crate) fn found(&self) -> &F {
         &self.found
@@ -213,8 +217,8 @@ impl<'a, F: Places> Reading<'a, F> {
 
     #[inline]
     pub(crate) fn name(&self) -> &'a str {
-        // SAFETY: a reader takes a name only where it is well-formed UTF-8, the place is the one that it
-        // answered for this datagram, and the place of no name is empty.
+        // SAFETY: a reader takes a name only where it is well-formed UTF-8, the span is the one that it
+        // answered for this datagram, and the span of no name is empty.
         unsafe { std::str::from_utf8_unchecked(part(self.datagram, self.found.name())) }
     }
 
@@ -232,21 +236,21 @@ impl<'a> Reading<'a, Found> {
 }
 
 #[inline]
-fn part(datagram: &[u8], place: Place) -> &[u8] {
-    &datagram[place.start..][..place.len]
+fn part(datagram: &[u8], span: Span) -> &[u8] {
+    &datagram[span.start..][..span.len]
 }
 
 #[inline]
 pub(crate) fn parse(datagram: &[u8]) -> Reading<'_, Found> {
     // SAFETY: pointer and length are one live slice's, which the call only reads.
-    let found = unsafe { ledgerwren_parse(datagram.as_ptr(), datagram.len()) };
+    let found = unsafe { ledgerwren1_parse(datagram.as_ptr(), datagram.len()) };
     Reading { datagram, found }
 }
 
 #[inline]
 pub(crate) fn parse_2009(datagram: &[u8]) -> Reading<'_, Found2009> {
     // SAFETY: pointer and length are one live slice's, which the call only reads.
-    let found = unsafe { ledgerwren_parse_2009(datagram.as_ptr(), datagram.len()) };
+    let found = unsafe { ledgerwren1_parse_2009(datagram.as_ptr(), datagram.len()) };
     Reading { datagram, found }
 }
 
@@ -255,7 +259,7 @@ pub(crate) fn copy_universes(datagram: &[u8], out: &mut [u16]) -> Result<usize, 
     // SAFETY: pointers and lengths are those of two live slices. They do not overlap, since `out` is
     // borrowed alone; only `out` is written.
     let outcome = unsafe {
-        ledgerwren_copy_universes(
+        ledgerwren1_copy_universes(
             datagram.as_ptr(),
             datagram.len(),
             out.as_mut_ptr(),
@@ -275,7 +279,7 @@ pub(crate) fn pack_data(
     // SAFETY: pointers and lengths are those of three live slices. `buf` overlaps neither of the
     // others, since it is borrowed alone; only `buf` is written.
     let outcome = unsafe {
-        ledgerwren_pack_data(
+        ledgerwren1_pack_data(
             buf.as_mut_ptr(),
             buf.len(),
             header,
@@ -294,7 +298,7 @@ pub(crate) fn pack_synchronization(
     header: SynchronizationHeader,
 ) -> Result<usize, Refusal> {
     // SAFETY: pointer and length are one live slice's, which is borrowed alone.
-    let outcome = unsafe { ledgerwren_pack_synchronization(buf.as_mut_ptr(), buf.len(), header) };
+    let outcome = unsafe { ledgerwren1_pack_synchronization(buf.as_mut_ptr(), buf.len(), header) };
     outcome.result()
 }
 
@@ -308,7 +312,7 @@ pub(crate) fn pack_discovery(
     // SAFETY: pointers and lengths are those of three live slices. `buf` overlaps neither of the
     // others, since it is borrowed alone; only `buf` is written.
     let outcome = unsafe {
-        ledgerwren_pack_discovery(
+        ledgerwren1_pack_discovery(
             buf.as_mut_ptr(),
             buf.len(),
             header,
@@ -324,12 +328,12 @@ pub(crate) fn pack_discovery(
 #[inline]
 pub(crate) fn is_universe_in_range(universe: u16) -> Result<(), Refusal> {
     // SAFETY: a number goes in and numbers come out.
-    unsafe { ledgerwren_is_universe_in_range(universe) }.unless_none()
+    unsafe { ledgerwren1_is_universe_in_range(universe) }.unless_none()
 }
 
 #[inline]
 pub(crate) fn universe_to_ipv4_multicast_addr(universe: u16) -> Result<Ipv4Address, Refusal> {
     // SAFETY: a number goes in and numbers come out.
-    let answer = unsafe { ledgerwren_universe_to_ipv4_multicast_addr(universe) };
+    let answer = unsafe { ledgerwren1_universe_to_ipv4_multicast_addr(universe) };
     answer.refusal.unless_none().map(|()| answer.address)
 }

@@ -5,6 +5,9 @@
 //! [`pack_discovery`] write into a lent buffer, and a [`Refusal`] says which check failed, in which
 //! layer, and with what value. [`parse_2009`] reads by the older edition.
 //!
+//! `docs/FORMAT.md` in the repository has the layout of packets in bytes, and for each refusal its
+//! number, place and value and when it comes.
+//!
 //! # What is proved, and what is not
 //!
 //! Proved, in the repository that this crate is part of: for every input, a call behind this crate
@@ -14,7 +17,7 @@
 //! Not proved: this crate. It hands arguments and answers on, and is held to that by tests. The
 //! `unsafe` code is in one file, `ffi.rs`, with its reasons. Also trusted are the compilers.
 //!
-//! # The fault of May
+//! # Names of 64 bytes
 //!
 //! A name of 64 bytes has no room for the zero behind it. It is refused when it is written, and not
 //! only when somebody reads it:
@@ -37,8 +40,12 @@
 //!
 //! # Building
 //!
-//! The static library is made by `rt staticlib exports` at the root of the repository. It is x86-64
-//! code for Linux. `LEDGERWREN_LIB_DIR` names its folder where that is not `target/staticlib`.
+//! The static library, `libledgerwren.a`, is made by `rt staticlib ledgerwren` at the root of the
+//! repository. It is x86-64 code for Linux. `LEDGERWREN_LIB_DIR` names its folder where that is not
+//! `target/staticlib`. `cargo check` and `cargo doc` need no library.
+//!
+//! The names of its calls carry the version of their layout, so that a library of another layout does
+//! not link.
 
 // The calls are thin, so they and what they use are marked `#[inline]`: a record is then built where
 // it is wanted, and not copied there.

@@ -5,6 +5,7 @@ use crate::{Cid, Refusal, Universes};
 
 /// A datagram that was read. It borrows from the datagram, and copies nothing of it but the CID.
 #[derive(Clone, Copy, PartialEq, Eq, Hash, Debug)]
+#[non_exhaustive]
 pub struct Packet<'a> {
     /// The sender's CID.
     pub cid: Cid,
@@ -12,8 +13,9 @@ pub struct Packet<'a> {
     pub data: PacketData<'a>,
 }
 
-/// The three kinds of packet.
+/// The kinds of packet.
 #[derive(Clone, Copy, PartialEq, Eq, Hash, Debug)]
+#[non_exhaustive]
 pub enum PacketData<'a> {
     /// Values of a universe.
     DataPacket(DataPacket<'a>),
@@ -58,6 +60,7 @@ pub struct SynchronizationPacket {
 
 /// A universe discovery packet that was read.
 #[derive(Clone, Copy, PartialEq, Eq, Hash, Debug)]
+#[non_exhaustive]
 pub struct UniverseDiscoveryPacket<'a> {
     /// The name of the source.
     pub source_name: &'a str,

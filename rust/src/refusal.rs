@@ -16,6 +16,7 @@ use std::fmt::{self, Display, Formatter};
 /// ```
 #[repr(C)]
 #[derive(Clone, Copy, PartialEq, Eq, Hash, Debug)]
+#[non_exhaustive]
 pub struct Refusal {
     number: u8,
     place: u8,
@@ -207,6 +208,7 @@ impl Display for Check {
 
 /// The layers of a packet; the discriminant is the place of a refusal.
 #[derive(Clone, Copy, PartialEq, Eq, Hash, Debug)]
+#[non_exhaustive]
 #[repr(u8)]
 pub enum Layer {
     /// The preamble, bytes 0 to 15.

@@ -41,9 +41,9 @@ static bool none(LedgerwrenRefusal r)
     return is(r, 0, LEDGERWREN_PLACE_NOWHERE, 0);
 }
 
-static bool at(LedgerwrenPlace place, size_t start, size_t len)
+static bool at(LedgerwrenSpan span, size_t start, size_t len)
 {
-    return place.start == start && place.len == len;
+    return span.start == start && span.len == len;
 }
 
 static bool filled(const uint8_t *bytes, size_t length, uint8_t with)
@@ -82,7 +82,7 @@ static void data_bytes(const uint8_t *buf, unsigned option)
 
 static void data_2009(const uint8_t *datagram, size_t length, unsigned option)
 {
-    LedgerwrenFound2009 found = ledgerwren_parse_2009(datagram, length);
+    LedgerwrenFound2009 found = ledgerwren1_parse_2009(datagram, length);
     CHECK(found.kind == LEDGERWREN_KIND_DATA && none(found.refusal));
     CHECK(memcmp(found.cid, CID, sizeof CID) == 0);
     CHECK(found.data_fields.priority == 100 && found.data_fields.sequence_number == 154);
@@ -96,12 +96,12 @@ static void data(unsigned option)
 {
     uint8_t buf[140];
     memset(buf, FILL, sizeof buf);
-    LedgerwrenOutcome written = ledgerwren_pack_data(buf, sizeof buf, data_header(option), NAME,
-                                                     sizeof NAME, VALUES, sizeof VALUES);
+    LedgerwrenOutcome written = ledgerwren1_pack_data(buf, sizeof buf, data_header(option), NAME,
+                                                      sizeof NAME, VALUES, sizeof VALUES);
     CHECK(none(written.refusal) && written.count == 129);
     data_bytes(buf, option);
 
-    LedgerwrenFound found = ledgerwren_parse(buf, written.count);
+    LedgerwrenFound found = ledgerwren1_parse(buf, written.count);
     CHECK(found.kind == LEDGERWREN_KIND_DATA && none(found.refusal));
     CHECK(memcmp(found.cid, CID, sizeof CID) == 0);
     CHECK(found.data_fields.priority == 100);
@@ -118,23 +118,23 @@ static void data(unsigned option)
 
 static void synchronization(void)
 {
-    LedgerwrenFound found = ledgerwren_parse(S, sizeof S);
+    LedgerwrenFound found = ledgerwren1_parse(S, sizeof S);
     CHECK(found.kind == LEDGERWREN_KIND_SYNCHRONIZATION && none(found.refusal));
     CHECK(found.cid[0] == 0x11 && found.cid[15] == 0x11);
     CHECK(found.synchronization_fields.sequence_number == 7);
     CHECK(found.synchronization_fields.synchronization_address == 8000);
     CHECK(at(found.name, 0, 0) && at(found.values, 0, 0) && at(found.universes, 0, 0));
-    CHECK(is(ledgerwren_parse_2009(S, sizeof S).refusal, LEDGERWREN_REFUSAL_INVALID_VECTOR,
+    CHECK(is(ledgerwren1_parse_2009(S, sizeof S).refusal, LEDGERWREN_REFUSAL_INVALID_VECTOR,
              LEDGERWREN_PLACE_ROOT, 8));
 
     uint8_t buf[50];
     memset(buf, FILL, sizeof buf);
     LedgerwrenSynchronizationHeader header = {.fields = found.synchronization_fields};
     memset(header.cid, 0x11, sizeof header.cid);
-    LedgerwrenOutcome refused = ledgerwren_pack_synchronization(buf, 48, header);
+    LedgerwrenOutcome refused = ledgerwren1_pack_synchronization(buf, 48, header);
     CHECK(is(refused.refusal, LEDGERWREN_REFUSAL_BUFFER_TOO_SMALL, LEDGERWREN_PLACE_NOWHERE, 0));
     CHECK(refused.count == 0 && filled(buf, sizeof buf, FILL));
-    LedgerwrenOutcome written = ledgerwren_pack_synchronization(buf, sizeof buf, header);
+    LedgerwrenOutcome written = ledgerwren1_pack_synchronization(buf, sizeof buf, header);
     CHECK(none(written.refusal) && written.count == sizeof S);
     CHECK(memcmp(buf, S, sizeof S) == 0 && buf[49] == FILL);
 }
@@ -142,10 +142,10 @@ static void synchronization(void)
 static void copied(const uint8_t *datagram, size_t length)
 {
     uint16_t out[4] = {9, 9, 9, 9};
-    LedgerwrenOutcome refused = ledgerwren_copy_universes(datagram, length, out, 2);
+    LedgerwrenOutcome refused = ledgerwren1_copy_universes(datagram, length, out, 2);
     CHECK(is(refused.refusal, LEDGERWREN_REFUSAL_NO_UNIVERSES_COPIED, LEDGERWREN_PLACE_NOWHERE, 0));
     CHECK(refused.count == 0 && out[0] == 9 && out[1] == 9);
-    LedgerwrenOutcome written = ledgerwren_copy_universes(datagram, length, out, COUNT(out));
+    LedgerwrenOutcome written = ledgerwren1_copy_universes(datagram, length, out, COUNT(out));
     CHECK(none(written.refusal) && written.count == COUNT(UNIVERSES));
     CHECK(memcmp(out, UNIVERSES, sizeof UNIVERSES) == 0 && out[3] == 9);
 }
@@ -157,13 +157,13 @@ static void discovery(void)
     LedgerwrenDiscoveryHeader header = {.fields = {.page = 3, .last_page = 5}};
     for (size_t i = 0; i < sizeof CID; i++)
         header.cid[i] = CID[i];
-    LedgerwrenOutcome written = ledgerwren_pack_discovery(buf, sizeof buf, header, NAME, sizeof NAME,
-                                                          UNIVERSES, COUNT(UNIVERSES));
+    LedgerwrenOutcome written = ledgerwren1_pack_discovery(buf, sizeof buf, header, NAME, sizeof NAME,
+                                                           UNIVERSES, COUNT(UNIVERSES));
     CHECK(none(written.refusal) && written.count == 126 && buf[126] == FILL);
     static const uint8_t list[] = {3, 5, 0, 1, 2, 3, 0xff, 0xfe};
     CHECK(memcmp(buf + 118, list, sizeof list) == 0);
 
-    LedgerwrenFound found = ledgerwren_parse(buf, written.count);
+    LedgerwrenFound found = ledgerwren1_parse(buf, written.count);
     CHECK(found.kind == LEDGERWREN_KIND_DISCOVERY && none(found.refusal));
     CHECK(memcmp(found.cid, CID, sizeof CID) == 0);
     CHECK(found.discovery_fields.page == 3 && found.discovery_fields.last_page == 5);
@@ -175,7 +175,7 @@ static void discovery(void)
 
 static void refusals(void)
 {
-    LedgerwrenFound empty = ledgerwren_parse(S, 0);
+    LedgerwrenFound empty = ledgerwren1_parse(S, 0);
     CHECK(empty.kind == LEDGERWREN_KIND_REFUSED && filled(empty.cid, sizeof empty.cid, 0));
     CHECK(is(empty.refusal, LEDGERWREN_REFUSAL_INSUFFICIENT_DATA, LEDGERWREN_PLACE_PREAMBLE, 0));
 
@@ -184,32 +184,32 @@ static void refusals(void)
     for (size_t i = 0; i < sizeof S; i++)
         strange[i] = S[i];
     strange[18] = 0xde, strange[19] = 0xad, strange[20] = 0xbe, strange[21] = 0xef;
-    LedgerwrenFound vector = ledgerwren_parse(strange, sizeof strange);
+    LedgerwrenFound vector = ledgerwren1_parse(strange, sizeof strange);
     CHECK(is(vector.refusal, LEDGERWREN_REFUSAL_INVALID_VECTOR, LEDGERWREN_PLACE_ROOT, 0xdeadbeef));
 
     uint8_t buf[140], long_name[64];
     memset(buf, FILL, sizeof buf);
     memset(long_name, 'n', sizeof long_name);
-    LedgerwrenOutcome named = ledgerwren_pack_data(buf, sizeof buf, data_header(0), long_name,
-                                                   sizeof long_name, VALUES, sizeof VALUES);
+    LedgerwrenOutcome named = ledgerwren1_pack_data(buf, sizeof buf, data_header(0), long_name,
+                                                    sizeof long_name, VALUES, sizeof VALUES);
     CHECK(is(named.refusal, LEDGERWREN_REFUSAL_NAME_TOO_LONG, LEDGERWREN_PLACE_NOWHERE, 0));
     CHECK(named.count == 0 && filled(buf, sizeof buf, FILL));
     /* Only C can offer a name that is no UTF-8. */
-    named = ledgerwren_pack_data(buf, sizeof buf, data_header(0), NAME, sizeof NAME - 1, VALUES, 1);
+    named = ledgerwren1_pack_data(buf, sizeof buf, data_header(0), NAME, sizeof NAME - 1, VALUES, 1);
     CHECK(named.refusal.number == LEDGERWREN_REFUSAL_WRITTEN_NAME_NOT_UTF8);
 }
 
 static void universes(void)
 {
-    CHECK(none(ledgerwren_is_universe_in_range(63999)));
-    CHECK(is(ledgerwren_is_universe_in_range(64000), LEDGERWREN_REFUSAL_NO_MULTICAST_ADDRESS,
+    CHECK(none(ledgerwren1_is_universe_in_range(63999)));
+    CHECK(is(ledgerwren1_is_universe_in_range(64000), LEDGERWREN_REFUSAL_NO_MULTICAST_ADDRESS,
              LEDGERWREN_PLACE_NOWHERE, 64000));
-    LedgerwrenAddress found = ledgerwren_universe_to_ipv4_multicast_addr(64214);
+    LedgerwrenAddress found = ledgerwren1_universe_to_ipv4_multicast_addr(64214);
     CHECK(none(found.refusal));
     CHECK(found.address.highest == 239 && found.address.second == 255);
     CHECK(found.address.third == 250 && found.address.lowest == 214);
     CHECK(found.address.port == 5568);
-    found = ledgerwren_universe_to_ipv4_multicast_addr(0);
+    found = ledgerwren1_universe_to_ipv4_multicast_addr(0);
     CHECK(is(found.refusal, LEDGERWREN_REFUSAL_NO_MULTICAST_ADDRESS, LEDGERWREN_PLACE_NOWHERE, 0));
     CHECK(found.address.highest == 0 && found.address.port == 0);
 }

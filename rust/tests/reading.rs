@@ -92,17 +92,16 @@ fn every_field_of_2009_comes_through() {
             synchronization_address: 64000,
             ..data("Desk é")
         };
-        let expected = DataPacket2009 {
-            cid: CID,
-            source_name: "Desk é",
-            priority: 100,
-            sequence_number: 154,
-            preview_data: option == 0,
-            stream_terminated: option == 1,
-            universe: 0x0304,
-            property_values: &[0, 255, 128, 7],
-        };
-        assert_eq!(parse_2009(&datagram(&packet)), Ok(expected));
+        let datagram = datagram(&packet);
+        let read = parse_2009(&datagram).expect("a data packet");
+        assert_eq!((read.cid, read.source_name), (CID, "Desk é"));
+        assert_eq!((read.priority, read.sequence_number), (100, 154));
+        assert_eq!(
+            (read.preview_data, read.stream_terminated),
+            (option == 0, option == 1)
+        );
+        assert_eq!(read.universe, 0x0304);
+        assert_eq!(read.property_values, [0, 255, 128, 7]);
     }
     let refusal = parse_2009(&S).expect_err("S is no data packet");
     assert_eq!(
@@ -113,14 +112,13 @@ fn every_field_of_2009_comes_through() {
 
 #[test]
 fn packet_s_is_read() {
-    let expected = Packet {
-        cid: [0x11; 16],
-        data: PacketData::SynchronizationPacket(SynchronizationPacket {
-            sequence_number: 7,
-            synchronization_address: 8000,
-        }),
+    let expected = SynchronizationPacket {
+        sequence_number: 7,
+        synchronization_address: 8000,
     };
-    assert_eq!(parse(&S), Ok(expected));
+    let read = parse(&S).expect("a synchronization packet");
+    assert_eq!(read.cid, [0x11; 16]);
+    assert_eq!(read.data, PacketData::SynchronizationPacket(expected));
 }
 
 #[test]

@@ -60,6 +60,7 @@ fn record_of(packet: ledgerwren::Packet) -> Record {
             last: discovery.last_page,
             universes: discovery.universes.iter().collect(),
         }),
+        unknown => panic!("the judge does not know this kind of packet: {unknown:?}"),
     }
 }
 

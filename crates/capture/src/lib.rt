@@ -10,7 +10,7 @@ const LAST_GROUP: usize = 0x7f;
 
 const GROUP: usize = 0x80;
 
-const LONGEST_ENTRY: usize = 8192;
+pub const LONGEST_ENTRY: usize = 8192;
 
 // The length in front of an entry, and how many bytes it takes up.
 pub enum Length {
@@ -26,6 +26,13 @@ pub enum Front {
     Bad,
     Cut,
     End,
+}
+
+// How a capture ends: at its end, inside an entry or its length, at a bad length.
+pub enum Ending {
+    End,
+    Cut,
+    Bad,
 }
 
 fn byte(s: &[u8], at: usize) -> usize

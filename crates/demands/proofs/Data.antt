@@ -14,9 +14,10 @@ use Rattle.refusal.proofs.Laws.{All, all-hold, all-++}
 use Rattle.name.specs.Name.{nameBytes, writtenNameChecks}
 use Rattle.name.proofs.Laws.{bytes-64}
 use Rattle.dmp.specs.Layer.{dmpBytes}
-use Rattle.framing.specs.Bytes.{framingHead, optionsOf, dataFramingBytes}
-use Rattle.framing.specs.declared.data.DataFields.{DataFields}
-use Rattle.packet.specs.Packet.{place, cidOf, packetOf, readingOf, withCid}
+use Rattle.framing.specs.Bytes.{optionsOf, dataFramingBytes}
+use Rattle.pdu.specs.Head.{layerHead}
+use Rattle.framing.specs.declared.DataFields.{DataFields}
+use Rattle.packet.specs.Packet.{span, cidOf, packetOf, readingOf, withCid}
 use Rattle.parts.specs.Parts.{shownAt}
 use Rattle.packet.specs.declared.Packet.{Packet}
 use Rattle.packet.specs.declared.Packet.the-variants.{Data}
@@ -33,9 +34,9 @@ use Rattle.demands.proofs.DataLayer.{frameWith, Says, variant, Variant,
 use Rattle.demands.proofs.DataTaken.{only-variant}
 use Rattle.demands.proofs.DataPlaces.{placed, placed-long, placed-back, name-part, options-at, name-at, alike-placed, placed-same}
 
--- what is read of the packet and its variants: f, and the places of a name of n bytes and of m values
+-- what is read of the packet and its variants: f, and the spans of a name of n bytes and of m values
 abbrev recordFor : DataFields → ℕ → ℕ → Packet
-recordFor f n m = Data (record { fields = f; name = place 44 n; values = place 125 m })
+recordFor f n m = Data (record { fields = f; name = span 44 n; values = span 125 m })
 
 abbrev readingFor : List ℕ → DataFields → ℕ → ℕ → Reading
 readingFor cid f n m = record { cid = cid; packet = recordFor f n m }
@@ -45,17 +46,17 @@ reading-by : (d cid : List ℕ) (f : DataFields) (n m : ℕ) → packetOf d ≡ 
 unfolding readingOf
 reading-by d cid f n m e c = ap (withCid d) e ∙ rw c
 
-shown-by : (d s : List ℕ) (start n : ℕ) → start + n ≤ length d → take n (drop start d) ≡ s → shownAt d (place start n) ≡ s
+shown-by : (d s : List ℕ) (start n : ℕ) → start + n ≤ length d → take n (drop start d) ≡ s → shownAt d (span start n) ≡ s
 unfolding partOf
 shown-by d s start n h e = sym (chosen (start + n ≤? length d) (take n (drop start d)) [] h refl) ∙ e
 
 meaning-by : (d cid : List ℕ) (f : DataFields) (name values : List ℕ) → readingOf d ≡ readingFor cid f (length name) (length values) →
-    shownAt d (place 44 (length name)) ≡ name → shownAt d (place 125 (length values)) ≡ values → meaning d ≡ dataContent cid f name values
+    shownAt d (span 44 (length name)) ≡ name → shownAt d (span 125 (length values)) ≡ values → meaning d ≡ dataContent cid f name values
 meaning-by d cid f name values e p q = ap (contentOf d) e ∙ rw (p, q)
 
 -- the packet's segments around the ignored places
 abbrev frontOf : List ℕ → ℕ → List ℕ
-frontOf cid n = rootHead (109 + n) 4 ++ (cid ++ framingHead (87 + n) 2)
+frontOf cid n = rootHead (109 + n) 4 ++ (cid ++ layerHead (87 + n) 2)
 
 abbrev midOf : DataFields → List ℕ
 midOf f = join ((f .priority ∷ []) ∷ be16 (f .«synchronization_address») ∷ (f .«sequence_number» ∷ []) ∷ [])
@@ -70,7 +71,7 @@ variant-placed : (cid : List ℕ) (f : DataFields) (o : ℕ) (field values rest 
     variant cid f o field values rest ≡ placed (frontOf cid (length values)) field (midOf f) o (backOf f values ++ rest)
 variant-placed cid f o field values rest =
     let n = length values in
-    regroup (rootHead (109 + n) 4) cid (framingHead (87 + n) 2) field (midOf f) (backOf f values) rest o
+    regroup (rootHead (109 + n) 4) cid (layerHead (87 + n) 2) field (midOf f) (backOf f values) rest o
 
 front-long : (cid : List ℕ) (n : ℕ) → length cid ≡ 16 → length (frontOf cid n) ≡ 44
 front-long cid n h = simp length-append (omega arith)

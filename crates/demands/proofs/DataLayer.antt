@@ -18,12 +18,14 @@ use Rattle.pdu.specs.Head.{flagsOf, lengthOf, vectorOf, headChecks, flagsAndLen
 use Rattle.pdu.specs.declared.VectorLength.the-variants.{One, Four}
 use Rattle.name.specs.Name.{sourceNameChecks}
 use Rattle.dmp.specs.Layer.{dmpChecks, dmpBytes, countOf}
-use Rattle.framing.specs.Data.{nameField, dmpPart, startChecks, priorityChecks, syncAddressChecks, universeChecks, fieldChecks, dataChecks, fieldsOf, option}
-use Rattle.framing.specs.Bytes.{framingHead, bitOf, optionsOf}
+use Rattle.framing.specs.Data.{dmpPart, startChecks, priorityChecks, syncAddressChecks, universeChecks, fieldChecks, dataChecks, fieldsOf, option}
+use Rattle.name.specs.Name.{nameField}
+use Rattle.framing.specs.Bytes.{bitOf, optionsOf}
+use Rattle.pdu.specs.Head.{layerHead}
 use Rattle.framing.proofs.Laws.{bit-le}
-use Rattle.framing.specs.declared.Edition.the-variants.{E2018}
-use Rattle.framing.specs.declared.data.DataFields.{DataFields}
-use Rattle.packet.specs.Packet.{place, dataRecord, dataPacketOf}
+use Rattle.pdu.specs.declared.Edition.the-variants.{E2018}
+use Rattle.framing.specs.declared.DataFields.{DataFields}
+use Rattle.packet.specs.Packet.{span, dataRecord, dataPacketOf}
 use Rattle.packet.specs.declared.Packet.the-variants.{Data, Refused}
 use Rattle.demands.specs.Limits.{ReadableName}
 use Rattle.demands.proofs.Segments.{cuts, join-cuts, field8, field16, field32, flags-back, be16-back}
@@ -37,7 +39,7 @@ fieldsWith f o =
 
 -- the layer with any name field
 abbrev pub frameWith : DataFields → ℕ → List ℕ → List ℕ → List ℕ
-frameWith f o field values = framingHead (87 + length values) 2 ++ (field ++ (fieldsWith f o ++ dmpBytes values))
+frameWith f o field values = layerHead (87 + length values) 2 ++ (field ++ (fieldsWith f o ++ dmpBytes values))
 
 -- the options byte o says what f says
 pub record Says (f : DataFields) (o : ℕ) : Type 0 where
@@ -224,8 +226,8 @@ module _ (f : DataFields) (o : ℕ) (field values : List ℕ) (n : length field 
           frame-by frame frame-flags (frame-length ∙ sym long) frame-vector (omega arith) (omega arith) (omega arith) (omega arith) (omega arith)
           (rw frame-name (named-checks field name readable named)) (rw frame-dmp (dmp-holds values few))
 
-      -- the record: f, and the places of name and values
-      pub frame-read : dataPacketOf frame ≡ Data (record { fields = f; name = place 44 (length name); values = place 125 (length values) })
+      -- the record: f, and the spans of name and values
+      pub frame-read : dataPacketOf frame ≡ Data (record { fields = f; name = span 44 (length name); values = span 125 (length values) })
       unfolding dataPacketOf
       frame-read =
           all-hold Refused (dataChecks E2018 frame) (Data (dataRecord frame)) frame-holds

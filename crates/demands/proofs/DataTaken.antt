@@ -16,13 +16,14 @@ use Rattle.pdu.specs.Head.{lengthOf, vectorOf}
 use Rattle.pdu.specs.declared.VectorLength.the-variants.{Four}
 use Rattle.name.specs.Name.{zeroAt, textOf}
 use Rattle.dmp.specs.Layer.{countOf}
-use Rattle.framing.specs.Data.{nameField, dmpPart, dataChecks, fieldsOf}
-use Rattle.framing.specs.declared.Edition.the-variants.{E2018}
-use Rattle.framing.specs.declared.data.DataFields.{DataFields}
+use Rattle.framing.specs.Data.{dmpPart, dataChecks, fieldsOf}
+use Rattle.name.specs.Name.{nameField}
+use Rattle.pdu.specs.declared.Edition.the-variants.{E2018}
+use Rattle.framing.specs.declared.DataFields.{DataFields}
 use Rattle.extended.specs.Extended.{extendedChecks}
 use Rattle.root.specs.Root.{preambleChecks, rootChecks, rootPart}
 use Rattle.root.proofs.Laws.{within}
-use Rattle.packet.specs.Packet.{place, rootVector, framingPart, framingChecks, packetChecks, recordOf, dataRecord, extendedRecord, synchronizationRecord, discoveryRecord, cidOf, packetOf, withCid, readingOf}
+use Rattle.packet.specs.Packet.{span, rootVector, framingPart, framingChecks, packetChecks, recordOf, dataRecord, extendedRecord, synchronizationRecord, discoveryRecord, cidOf, packetOf, withCid, readingOf}
 use Rattle.parts.specs.Parts.{shownAt}
 use Rattle.packet.specs.declared.DataRecord.{DataRecord}
 use Rattle.packet.specs.declared.Packet.{Packet}
@@ -59,8 +60,8 @@ record Held (cid : List ℕ) (f : DataFields) (name values d : List ℕ) : Type 
   checks : All (dataChecks E2018 (framingPart d))
   cid-is : cidOf d ≡ cid
   fields-are : fieldsOf (framingPart d) ≡ f
-  name-is : shownAt d (place 44 (zeroAt (nameField (framingPart d)))) ≡ name
-  values-are : shownAt d (place 125 (countOf (dmpPart (framingPart d) (lengthOf (framingPart d))))) ≡ values
+  name-is : shownAt d (span 44 (zeroAt (nameField (framingPart d)))) ≡ name
+  values-are : shownAt d (span 125 (countOf (dmpPart (framingPart d) (lengthOf (framingPart d))))) ≡ values
 
 extended-never : (p : List ℕ) (x : DataRecord) → extendedRecord p ≡ Data x → ⊥
 extended-never p x =
@@ -102,7 +103,7 @@ module _ (cid : List ℕ) (f : DataFields) (name values d : List ℕ) (t : Taken
       }
 
 -- a part that is shown, where it lies in the datagram
-shown-part : (d s : List ℕ) (start n : ℕ) → start + n ≤ length d → shownAt d (place start n) ≡ s → take n (drop start d) ≡ s
+shown-part : (d s : List ℕ) (start n : ℕ) → start + n ≤ length d → shownAt d (span start n) ≡ s → take n (drop start d) ≡ s
 unfolding partOf
 shown-part d s start n h e = chosen (start + n ≤? length d) (take n (drop start d)) [] h refl ∙ e
 

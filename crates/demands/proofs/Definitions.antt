@@ -15,7 +15,7 @@ use Rattle.refusal.proofs.Laws.{All, Stops, refusalAt, decides, all-hold, first
 use Rattle.universe.specs.Universe.{universeChecks, multicastOf}
 use Rattle.universe.specs.declared.Multicast.the-variants as multicast
 use Rattle.discovery.specs.declared.DiscoveryFields.{DiscoveryFields}
-use Rattle.framing.specs.declared.data.DataFields.{DataFields}
+use Rattle.framing.specs.declared.DataFields.{DataFields}
 use Rattle.extended.specs.declared.synchronization.SynchronizationFields.{SynchronizationFields}
 use Rattle.packet.specs.Packet.{packetChecks, recordOf, packetOf, withCid, readingOf, framingPart}
 use Rattle.packet.specs.declared.Packet.the-variants as packet

@@ -12,8 +12,8 @@ use Rattle.refusal.proofs.Laws.{All, all-++, all-hold}
 use Rattle.name.specs.Name.{writtenNameChecks, nameBytes}
 use Rattle.discovery.specs.declared.DiscoveryFields.{DiscoveryFields}
 use Rattle.discovery.specs.Universes.{orderChecks}
-use Rattle.packet.specs.Packet.{place, packetOf, readingOf}
-use Rattle.parts.specs.Parts.{listedAt, universesPlace, universesIn, copiedOf, afterCopy}
+use Rattle.packet.specs.Packet.{span, packetOf, readingOf}
+use Rattle.parts.specs.Parts.{listedAt, universesSpan, universesIn, copiedOf, afterCopy}
 use Rattle.packet.specs.declared.Packet.{Packet}
 use Rattle.parts.specs.declared.Copied.the-variants as copied
 use Rattle.pack.specs.Writing.{discoveryBytes, discoveryLength, discoveryWriteChecks, countCheck, packedOf, afterPack}
@@ -59,8 +59,8 @@ copied-discovery cid f name us buf out r room fits =
     let n = 2 * length us / 2 in
     let half : n ≡ length us = omega arith in
     let listed : universesIn d ≡ us =
-    ap (λ (x : Packet). listedAt d (universesPlace x)) e
-    ∙ ap (λ (l : List ℕ). listedAt l (place 120 (2 * length us))) is
+    ap (λ (x : Packet). listedAt d (universesSpan x)) e
+    ∙ ap (λ (l : List ℕ). listedAt l (span 120 (2 * length us))) is
     ∙ with-universes cid f name us (nameBytes name) (be32 0) rest r named refl in (
       rw e (all-hold copied.Refused (check (n ≤? length out) (refusal 31 nowhere 0) ∷ []) (copied.Universes n) (omega arith) ∙ rw half),
       rw listed (sets-front us out (length us) refl fits),

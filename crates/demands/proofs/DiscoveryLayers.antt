@@ -18,14 +18,14 @@ use Rattle.discovery.specs.declared.DiscoveryFields.{DiscoveryFields}
 use Rattle.discovery.specs.Layer.{ownChecks, discoveryChecks, discoveryHead, discoveryBytes, listPart, countIn}
 use Rattle.discovery.specs.Universes.{listChecks, universes, universeBytes, orderChecks}
 use Rattle.discovery.proofs.Laws.{bytes-length}
-use Rattle.framing.specs.Bytes.{framingHead}
-use Rattle.framing.specs.Data.{nameField}
+use Rattle.pdu.specs.Head.{layerHead}
+use Rattle.name.specs.Name.{nameField}
 use Rattle.extended.specs.Synchronization.{synchronizationChecks}
 use Rattle.extended.specs.UniverseDiscovery.{discoveryPart, startChecks, discoveryFramingChecks}
 use Rattle.extended.specs.Extended.{kindChecks, extendedChecks}
 use Rattle.packet.specs.declared.Packet.{Packet}
 use Rattle.packet.specs.declared.Packet.the-variants.{Discovery, Refused}
-use Rattle.packet.specs.Packet.{place, extendedRecord, extendedPacketOf}
+use Rattle.packet.specs.Packet.{span, extendedRecord, extendedPacketOf}
 use Rattle.demands.specs.Limits.{ReadableDiscovery}
 use Rattle.demands.proofs.Names.{Named, named-ends, named-checks}
 use Rattle.demands.proofs.UniverseLists.{listed-back, bytes-back}
@@ -75,13 +75,13 @@ module _ (f : DiscoveryFields) (name us p nf q : List ℕ) (whole : ℕ) (fits :
       all-++ (headChecks Four framing p) (kindChecks whole len vec ++ bodies) heads (all-++ (kindChecks whole len vec) bodies kinds last)
 
   record-by : zeroAt nf ≡ length name → byteAt q 6 ≡ f .page → byteAt q 7 ≡ f .«last_page» → length us ≤ 512 →
-      extendedRecord p ≡ Discovery (record { fields = f; name = place 44 (length name); universes = place 120 (2 * length us) })
+      extendedRecord p ≡ Discovery (record { fields = f; name = span 44 (length name); universes = span 120 (2 * length us) })
   record-by ends a b few =
       let count : countIn (lengthOf q) ≡ length us = omega arith in
       sym (passed-over (vectorOf Four p =? 1) _ _ (omega arith) refl) ∙ rw (s .says, nf-is, q-is, ends, a, b, count)
 
 -- a layer's start as it is written
-starts : (len vec : ℕ) (tail : List ℕ) → len < 0x1000 → vec < 0x10000 → 6 + length tail ≡ len → Starts (framingHead len vec ++ tail) len vec
+starts : (len vec : ℕ) (tail : List ℕ) → len < 0x1000 → vec < 0x10000 → 6 + length tail ≡ len → Starts (layerHead len vec ++ tail) len vec
 unfolding u16At u32At
 starts len vec tail small low e = record { flags = omega arith; says = omega arith; vector = omega arith; long = omega arith }
 
@@ -91,10 +91,10 @@ behind nf reserved q a b =
 
 -- a discovery packet's framing layer: any field that holds the name, any reserved bytes
 abbrev pub frame : DiscoveryFields → List ℕ → List ℕ → List ℕ → List ℕ
-frame f us nf reserved = framingHead (82 + 2 * length us) 2 ++ (nf ++ (reserved ++ discoveryBytes f us))
+frame f us nf reserved = layerHead (82 + 2 * length us) 2 ++ (nf ++ (reserved ++ discoveryBytes f us))
 
 abbrev pub recordWith : DiscoveryFields → ℕ → ℕ → Packet
-recordWith f n m = Discovery (record { fields = f; name = place 44 n; universes = place 120 (2 * m) })
+recordWith f n m = Discovery (record { fields = f; name = span 44 n; universes = span 120 (2 * m) })
 
 pub layer-long : (f : DiscoveryFields) (us : List ℕ) → length (discoveryBytes f us) ≡ 8 + 2 * length us
 unfolding discoveryBytes
@@ -140,7 +140,7 @@ pub layer-only : (f : DiscoveryFields) (us q : List ℕ) → Bytes q → length 
 unfolding discoveryBytes
 layer-only f us q b long heads len vec a z list =
     let n = 8 + 2 * length us in
-    let l0 : take 6 q ≡ framingHead n 1 = head-bytes discovery n 1 q heads b len vec in
+    let l0 : take 6 q ≡ layerHead n 1 = head-bytes discovery n 1 q heads b len vec in
     let l6 = field8 q b 6 (f .page) (omega arith) a in
     let l7 = field8 q b 7 (f .«last_page») (omega arith) z in
     let front : take 8 q ≡ discoveryHead f (length us) = sym (join-cuts 0 (6 ∷ 1 ∷ 1 ∷ []) q) ∙ rw (l0, l6, l7) in
@@ -156,8 +156,8 @@ pub frame-only : (f : DiscoveryFields) (us p : List ℕ) → Bytes p → All (he
     lengthOf p ≡ 82 + 2 * length us → vectorOf Four p ≡ 2 → drop 74 p ≡ discoveryBytes f us → p ≡ frame f us (nameField p) (take 4 (drop 70 p))
 frame-only f us p b heads len vec back =
     let l0 = head-bytes framing (82 + 2 * length us) 2 p heads b len vec in
-    let front : take 74 p ≡ framingHead (82 + 2 * length us) 2 ++ (nameField p ++ take 4 (drop 70 p)) =
+    let front : take 74 p ≡ layerHead (82 + 2 * length us) 2 ++ (nameField p ++ take 4 (drop 70 p)) =
     sym (join-cuts 0 (6 ∷ 64 ∷ 4 ∷ []) p) ∙ rw (l0, append-nil) in
     sym (take-append-drop 74 p)
     ∙ ap₂ (λ (s t : List ℕ). s ++ t) front back
-    ∙ grouped (framingHead (82 + 2 * length us) 2) (nameField p) (take 4 (drop 70 p)) (discoveryBytes f us)
+    ∙ grouped (layerHead (82 + 2 * length us) 2) (nameField p) (take 4 (drop 70 p)) (discoveryBytes f us)

@@ -1,4 +1,4 @@
--- What a datagram of a discovery packet's size is, that is read as a record x with the name and the universes at its places: each layer's
+-- What a datagram of a discovery packet's size is, that is read as a record x with the name and the universes at its spans: each layer's
 -- length, then its bytes. Assumes nothing.
 use Prim.Native.Nat.{ℕ, _+_, _*_, _-_, _/_, _≤_}
 use mathlib.Core.Path.{_≡_, sym, ap, _∙_}
@@ -18,13 +18,13 @@ use Rattle.discovery.specs.declared.DiscoveryFields.{DiscoveryFields}
 use Rattle.discovery.specs.Layer as layer
 use Rattle.discovery.specs.Universes.{universes, allUniverses, listChecks}
 use Rattle.discovery.proofs.Laws.{universes-length}
-use Rattle.framing.specs.Data.{nameField}
-use Rattle.framing.specs.declared.Edition.the-variants.{E2018}
+use Rattle.name.specs.Name.{nameField}
+use Rattle.pdu.specs.declared.Edition.the-variants.{E2018}
 use Rattle.extended.specs.UniverseDiscovery.{discoveryPart, startChecks, discoveryFramingChecks}
 use Rattle.extended.specs.Extended.{extendedChecks}
 use Rattle.root.specs.Root.{rootPart}
 use Rattle.root.proofs.Laws.{within}
-use Rattle.packet.specs.Packet.{place, rootVector, framingPart, discoveryRecord, extendedRecord, packetOf, cidOf}
+use Rattle.packet.specs.Packet.{span, rootVector, framingPart, discoveryRecord, extendedRecord, packetOf, cidOf}
 use Rattle.parts.specs.Parts.{shownAt, listedAt}
 use Rattle.packet.specs.declared.DiscoveryRecord.{DiscoveryRecord}
 use Rattle.packet.specs.declared.Packet.the-variants.{Discovery}
@@ -95,7 +95,7 @@ module _ (cid : List ℕ) (f : DiscoveryFields) (name us d : List ℕ) (x : Disc
       let n = nested in
       let o = own in
       let l : List ℕ = take (2 * count) (drop 120 d) in
-      let at : place 120 (2 * count) ≡ x .universes = ap (λ (y : DiscoveryRecord). y .universes) (frames .3) in
+      let at : span 120 (2 * count) ≡ x .universes = ap (λ (y : DiscoveryRecord). y .universes) (frames .3) in
       let inside : 120 + 2 * count ≤ length d = omega arith in
       let is : allUniverses l ≡ us = ap allUniverses (sym (part-inside d 120 (2 * count) inside)) ∙ ap (listedAt d) at ∙ listed in
       let half : length l / 2 ≡ count = omega (arith, length-take-le (2 * count) (drop 120 d) (simp length-drop (omega arith))) in
@@ -148,7 +148,7 @@ module _ (cid : List ℕ) (f : DiscoveryFields) (name us d : List ℕ) (x : Disc
       let z : ℕ = zeroAt (nameField p) in
       let size : length (nameField p) ≡ 64 = length-take-le 64 (drop 6 p) (simp length-drop (omega arith)) in
       let ended : z + 1 ≤ length (nameField p) = nameds .0 in
-      let at : place 44 z ≡ x .name = ap (λ (y : DiscoveryRecord). y .name) (frames .3) in
+      let at : span 44 z ≡ x .name = ap (λ (y : DiscoveryRecord). y .name) (frames .3) in
       let text : textOf (nameField p) ≡ name =
       take-take z 64 (drop 6 p) (omega arith)
       ∙ ap (λ (t : List ℕ). take z t) (ap (λ (t : List ℕ). drop 6 t) p-is ∙ drop-drop 6 38 d)

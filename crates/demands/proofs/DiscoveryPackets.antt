@@ -15,9 +15,9 @@ use Rattle.discovery.specs.declared.DiscoveryFields.{DiscoveryFields}
 use Rattle.discovery.specs.Layer as layer
 use Rattle.discovery.specs.Universes.{allUniverses, universeBytes}
 use Rattle.discovery.proofs.Laws.{bytes-length}
-use Rattle.framing.specs.Bytes.{framingHead}
+use Rattle.pdu.specs.Head.{layerHead}
 use Rattle.extended.specs.Bytes.{discoveryFramingBytes}
-use Rattle.packet.specs.Packet.{place, packetOf, readingOf}
+use Rattle.packet.specs.Packet.{span, packetOf, readingOf}
 use Rattle.parts.specs.Parts.{shownAt, listedAt}
 use Rattle.pack.specs.Writing.{discoveryBytes, discoveryLength}
 use Rattle.pack.proofs.Writing.{discovery-long}
@@ -71,7 +71,7 @@ module _ (cid : List ℕ) (f : DiscoveryFields) (name us : List ℕ) where
 
   -- the bytes before the name
   before : List ℕ
-  before = rooted rootLength 8 cid (framingHead (82 + 2 * length us) 2)
+  before = rooted rootLength 8 cid (layerHead (82 + 2 * length us) 2)
 
   before-44 : length cid ≡ 16 → length before ≡ 44
   unfolding before
@@ -114,8 +114,8 @@ module _ (cid : List ℕ) (f : DiscoveryFields) (name us : List ℕ) where
         discovery-read packet cid _ with-record
         (root-cid rootLength 8 cid (frame f us nf reserved) rest (r .cid-16) frame-fills (omega arith) (omega arith))
 
-    -- with the name and the universes at its places
-    with-name : shownAt packet (place 44 (length name)) ≡ name
+    -- with the name and the universes at its spans
+    with-name : shownAt packet (span 44 (length name)) ≡ name
     with-name =
         let fill = drop (length name + 1) nf in
         let tail = reserved ++ (layer.discoveryBytes f us ++ rest) in
@@ -125,7 +125,7 @@ module _ (cid : List ℕ) (f : DiscoveryFields) (name us : List ℕ) where
         ∙ ap (λ (l : List ℕ). before ++ l) (append-assoc name (0 ∷ fill) tail) in
         part-behind packet before name ((0 ∷ fill) ++ tail) 44 (length name) is (before-44 (r .cid-16)) refl
 
-    pub with-universes : listedAt packet (place 120 (2 * length us)) ≡ us
+    pub with-universes : listedAt packet (span 120 (2 * length us)) ≡ us
     unfolding layer.discoveryBytes
     with-universes =
         let head = layer.discoveryHead f (length us) in

@@ -14,8 +14,8 @@ use Rattle.refusal.proofs.Laws.{All, found, all-hold, all-++, all-front, all-ba
 use Rattle.pdu.specs.Head.{headChecks, lengthOf, vectorOf}
 use Rattle.pdu.specs.declared.VectorLength.the-variants.{Four}
 use Rattle.discovery.specs.declared.DiscoveryFields.{DiscoveryFields}
-use Rattle.framing.specs.declared.Edition.the-variants.{E2018}
-use Rattle.framing.specs.declared.data.DataFields.{DataFields}
+use Rattle.pdu.specs.declared.Edition.the-variants.{E2018}
+use Rattle.framing.specs.declared.DataFields.{DataFields}
 use Rattle.extended.specs.declared.synchronization.SynchronizationFields.{SynchronizationFields}
 use Rattle.root.specs.Root.{preambleChecks, rootPart, vectorChecks, lengthChecks, cidChecks, bodyChecks, rootChecks}
 use Rattle.packet.specs.Packet.{rootVector, framingPart, packetChecks, recordOf, dataRecord, synchronizationRecord, discoveryRecord, extendedRecord, packetOf, withCid, readingOf}
@@ -82,7 +82,7 @@ pub known-2009 : (d cid : List ℕ) (f : DataFields) (name values : List ℕ) �
     meaning2009 d ≡ dataContent2009 cid (droppedFields f) name values
 known-2009 d cid f name values m = dropped-2009 d cid f name values m .1
 
--- Or it refuses a packet that is no data packet by its root vector: 4 at place 2 with value 8.
+-- Or it refuses a packet that is no data packet by its root vector: 4 at span 2 with value 8.
 by-vector : (d : List ℕ) → Rooted d → rootVector d ≡ 8 → reading2009Of d ≡ refusedByVector d
 unfolding checkedOf
 by-vector d h v =

@@ -6,7 +6,7 @@ use mathlib.Core.List.{List}
 use lib.ListN.{length}
 use Rattle.wire.specs.Bytes.{Bytes}
 use Rattle.discovery.specs.declared.DiscoveryFields.{DiscoveryFields}
-use Rattle.framing.specs.declared.data.DataFields.{DataFields}
+use Rattle.framing.specs.declared.DataFields.{DataFields}
 use Rattle.extended.specs.declared.synchronization.SynchronizationFields.{SynchronizationFields}
 use Rattle.pack.specs.Writing.{dataBytes, dataLength, synchronizationBytes, synchronizationLength, discoveryBytes, discoveryLength}
 use Rattle.demands.specs.Content.{dataContent, synchronizationContent, discoveryContent, meaning}

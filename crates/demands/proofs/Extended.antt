@@ -13,8 +13,8 @@ use Rattle.refusal.proofs.Tests.{Holds, Fails, chosen, passed-over, decide}
 use Rattle.refusal.proofs.Laws.{All, all-front, all-back, found}
 use Rattle.pdu.specs.Head.{headChecks, lengthOf, vectorOf, flagsField}
 use Rattle.pdu.specs.declared.VectorLength.the-variants.{Four}
-use Rattle.framing.specs.declared.Edition.the-variants.{E2018}
-use Rattle.framing.specs.Bytes.{framingHead}
+use Rattle.pdu.specs.declared.Edition.the-variants.{E2018}
+use Rattle.pdu.specs.Head.{layerHead}
 use Rattle.extended.specs.Extended.{kindChecks, extendedChecks}
 use Rattle.extended.specs.Synchronization.{synchronizationChecks}
 use Rattle.extended.specs.UniverseDiscovery.{discoveryFramingChecks}
@@ -56,7 +56,7 @@ same-discovery x y e = cc
 
 -- the bytes of an accepted layer's start, by its length and its vector
 pub head-bytes : (place n v : ℕ) (p : List ℕ) → All (headChecks Four place p) → Bytes p → lengthOf p ≡ n → vectorOf Four p ≡ v →
-    take 6 p ≡ framingHead n v
+    take 6 p ≡ layerHead n v
 head-bytes place n v p h b len vec =
     let flags : u16At p 0 ≡ flagsField n = flags-back p b (h .1 .0) ∙ ap flagsField len in
     take-add 2 4 p ∙ rw (field16 p b 0 (flagsField n) (omega arith) flags, field32 p b 2 v (omega arith) vec)

@@ -18,7 +18,7 @@ use Rattle.discovery.specs.Layer as discoveryLayer
 use Rattle.discovery.specs.declared.DiscoveryFields.{DiscoveryFields}
 use Rattle.discovery.proofs.Laws.{bytes-length}
 use Rattle.framing.specs.Bytes.{bitOf, optionsOf, dataFramingBytes}
-use Rattle.framing.specs.declared.data.DataFields.{DataFields}
+use Rattle.framing.specs.declared.DataFields.{DataFields}
 use Rattle.extended.specs.Bytes.{synchronizationFramingBytes, discoveryFramingBytes}
 use Rattle.extended.specs.declared.synchronization.SynchronizationFields.{SynchronizationFields}
 use Rattle.pack.specs.Writing.{dataBytes, synchronizationBytes, discoveryBytes, dataLength, synchronizationLength, discoveryLength, dataWriteChecks, synchronizationWriteChecks, discoveryWriteChecks, packedOf, afterPack}

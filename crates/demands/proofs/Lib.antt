@@ -19,7 +19,7 @@ pub mod DiscoveryOnly
 pub mod Discovery
 pub mod Edition2009
 pub mod Contracts
-pub mod Places
+pub mod Spans
 pub mod Laid
 pub mod Unlooked
 pub mod Settled

@@ -14,7 +14,7 @@ use Rattle.refusal.specs.Check.{_=?_, _or_}
 use Rattle.refusal.proofs.Tests.{Holds, chosen, passed-over, decide}
 use Rattle.refusal.proofs.Laws.{All, all-hold}
 use Rattle.pdu.specs.Head.{flagsOf, lengthOf, flagsAndLength, flagsField}
-use Rattle.framing.specs.declared.Edition.the-variants.{E2018}
+use Rattle.pdu.specs.declared.Edition.the-variants.{E2018}
 use Rattle.root.specs.Root.{preambleChecks, rootChecks, rootPart, rootOf}
 use Rattle.root.specs.declared.Root.the-variants as layer
 use Rattle.root.proofs.Laws.{within}

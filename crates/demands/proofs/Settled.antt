@@ -38,9 +38,6 @@ part = settled-as (λ k a r e p. p)
 pub copy : SettledAs Wire.copy.Reads.Learnt (λ k r e. now (e .0))
 copy = settled-as (λ k a r e p. p)
 
-pub zeros : SettledAs Wire.zeros.Reads.Learnt (λ k r e. now (e .0))
-zeros = settled-as (λ k a r e p. p)
-
 pub put-u16 : SettledAs Wire.put_u16.Reads.Learnt (λ k r e. now (e .0))
 put-u16 = settled-as (λ k a r e p. p)
 
@@ -74,6 +71,9 @@ pdu-info = settled (λ k a r e p. p)
 pub flags-and-length : Settled Pdu.flags_and_length.Reads.Learnt
 flags-and-length = settled (λ k a r e p. p)
 
+pub put-head : SettledAs Pdu.put_head.Reads.Learnt (λ k r e. now (e .0))
+put-head = settled-as (λ k a r e p. p)
+
 -- dmp
 pub dmp-parse : Settled Dmp.parse.Reads.Learnt
 dmp-parse = settled (λ k a r e p. p)
@@ -95,17 +95,14 @@ pub discovery-pack : SettledAs Discovery.pack.Reads.Learnt (λ k r e. now (e .0)
 discovery-pack = settled-as (λ k a r e p. p)
 
 -- framing
-pub put-head : SettledAs Framing.put_head.Reads.Learnt (λ k r e. now (e .0))
-put-head = settled-as (λ k a r e p. p)
+pub framing-parse : Settled Framing.parse.Reads.Learnt
+framing-parse = settled (λ k a r e p. p)
 
-pub data-parse : Settled Framing.data.parse.Reads.Learnt
-data-parse = settled (λ k a r e p. p)
+pub framing-fields : Settled Framing.fields.Reads.Learnt
+framing-fields = settled (λ k a r e p. p)
 
-pub data-fields : Settled Framing.data.fields.Reads.Learnt
-data-fields = settled (λ k a r e p. p)
-
-pub data-pack : SettledAs Framing.data.pack.Reads.Learnt (λ k r e. now (e .0))
-data-pack = settled-as (λ k a r e p. p)
+pub framing-pack : SettledAs Framing.pack.Reads.Learnt (λ k r e. now (e .0))
+framing-pack = settled-as (λ k a r e p. p)
 
 -- extended
 pub synchronization-parse : Settled Extended.synchronization.parse.Reads.Learnt
@@ -141,8 +138,8 @@ parse = settled (λ k a r e p. p)
 pub shown : SettledAs Parts.shown.Reads.Learnt (λ k r e. now r)
 shown = settled-as (λ k a r e p. p)
 
-pub places-in : Settled Parts.places_in.Reads.Learnt
-places-in = settled (λ k a r e p. p)
+pub spans-in : Settled Parts.spans_in.Reads.Learnt
+spans-in = settled (λ k a r e p. p)
 
 pub name : SettledAs Parts.name.Reads.Learnt (λ k r e. now r)
 name = settled-as (λ k a r e p. p)

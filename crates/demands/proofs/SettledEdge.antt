@@ -4,8 +4,8 @@ use mathlib.Core.Path.{sym, _∙_}
 use denote.Ref.{now}
 use Rattle.parts.proofs as Parts
 use Rattle.view.proofs as View
-use Rattle.flat.proofs as Flat
-use Rattle.exports.proofs as Exports
+use Rattle.c_answers.proofs as CAnswers
+use Rattle.ledgerwren.proofs as Ledgerwren
 use Rattle.demands.proofs.Contracts.{Settled, settled, SettledAs, settled-as, SettledWith, settled-with, SettledBy, facts}
 
 -- parts
@@ -32,45 +32,45 @@ pub viewed-values : SettledAs View.viewed_values.Reads.Learnt (λ k r e. now r)
 viewed-values = settled-as (λ k a r e p. p)
 
 -- flat
-pub flatten : Settled Flat.flatten.Reads.Learnt
+pub flatten : Settled CAnswers.flatten.Reads.Learnt
 flatten = settled (λ k a r e p. p)
 
-pub flatten-2009 : Settled Flat.flatten_2009.Reads.Learnt
+pub flatten-2009 : Settled CAnswers.flatten_2009.Reads.Learnt
 flatten-2009 = settled (λ k a r e p. p)
 
-pub packed-outcome : Settled Flat.packed_outcome.Reads.Learnt
+pub packed-outcome : Settled CAnswers.packed_outcome.Reads.Learnt
 packed-outcome = settled (λ k a r e p. p)
 
-pub copied-outcome : Settled Flat.copied_outcome.Reads.Learnt
+pub copied-outcome : Settled CAnswers.copied_outcome.Reads.Learnt
 copied-outcome = settled (λ k a r e p. p)
 
-pub refusal-of : Settled Flat.refusal_of.Reads.Learnt
+pub refusal-of : Settled CAnswers.refusal_of.Reads.Learnt
 refusal-of = settled (λ k a r e p. p)
 
-pub address-of : Settled Flat.address_of.Reads.Learnt
+pub address-of : Settled CAnswers.address_of.Reads.Learnt
 address-of = settled (λ k a r e p. p)
 
 -- exports
-pub ledgerwren-parse : Settled Exports.ledgerwren_parse.Reads.Learnt
-ledgerwren-parse = settled (λ k a r e p. p)
+pub ledgerwren1-parse : Settled Ledgerwren.ledgerwren1_parse.Reads.Learnt
+ledgerwren1-parse = settled (λ k a r e p. p)
 
-pub ledgerwren-parse-2009 : Settled Exports.ledgerwren_parse_2009.Reads.Learnt
-ledgerwren-parse-2009 = settled (λ k a r e p. p)
+pub ledgerwren1-parse-2009 : Settled Ledgerwren.ledgerwren1_parse_2009.Reads.Learnt
+ledgerwren1-parse-2009 = settled (λ k a r e p. p)
 
-pub ledgerwren-copy-universes : SettledWith Exports.ledgerwren_copy_universes.Reads.Learnt (λ k e. now (e .1 .0))
-ledgerwren-copy-universes = settled-with (λ k a r e p. p)
+pub ledgerwren1-copy-universes : SettledWith Ledgerwren.ledgerwren1_copy_universes.Reads.Learnt (λ k e. now (e .1 .0))
+ledgerwren1-copy-universes = settled-with (λ k a r e p. p)
 
-pub ledgerwren-pack-data : SettledWith Exports.ledgerwren_pack_data.Reads.Learnt (λ k e. now (e .0))
-ledgerwren-pack-data = settled-with (λ k a r e p. p)
+pub ledgerwren1-pack-data : SettledWith Ledgerwren.ledgerwren1_pack_data.Reads.Learnt (λ k e. now (e .0))
+ledgerwren1-pack-data = settled-with (λ k a r e p. p)
 
-pub ledgerwren-pack-synchronization : SettledWith Exports.ledgerwren_pack_synchronization.Reads.Learnt (λ k e. now (e .0))
-ledgerwren-pack-synchronization = settled-with (λ k a r e p. p)
+pub ledgerwren1-pack-synchronization : SettledWith Ledgerwren.ledgerwren1_pack_synchronization.Reads.Learnt (λ k e. now (e .0))
+ledgerwren1-pack-synchronization = settled-with (λ k a r e p. p)
 
-pub ledgerwren-pack-discovery : SettledWith Exports.ledgerwren_pack_discovery.Reads.Learnt (λ k e. now (e .0))
-ledgerwren-pack-discovery = settled-with (λ k a r e p. p)
+pub ledgerwren1-pack-discovery : SettledWith Ledgerwren.ledgerwren1_pack_discovery.Reads.Learnt (λ k e. now (e .0))
+ledgerwren1-pack-discovery = settled-with (λ k a r e p. p)
 
-pub ledgerwren-is-universe-in-range : Settled Exports.ledgerwren_is_universe_in_range.Reads.Learnt
-ledgerwren-is-universe-in-range = settled (λ k a r e p. p)
+pub ledgerwren1-is-universe-in-range : Settled Ledgerwren.ledgerwren1_is_universe_in_range.Reads.Learnt
+ledgerwren1-is-universe-in-range = settled (λ k a r e p. p)
 
-pub ledgerwren-universe-to-ipv4-multicast-addr : Settled Exports.ledgerwren_universe_to_ipv4_multicast_addr.Reads.Learnt
-ledgerwren-universe-to-ipv4-multicast-addr = settled (λ k a r e p. p)
+pub ledgerwren1-universe-to-ipv4-multicast-addr : Settled Ledgerwren.ledgerwren1_universe_to_ipv4_multicast_addr.Reads.Learnt
+ledgerwren1-universe-to-ipv4-multicast-addr = settled (λ k a r e p. p)

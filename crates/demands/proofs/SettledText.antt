@@ -3,7 +3,7 @@
 use denote.Ref.{now}
 use Rattle.capture.proofs as Capture
 use Rattle.text.proofs as Text
-use Rattle.fields.proofs as Fields
+use Rattle.field_text.proofs as FieldText
 use Rattle.line.proofs as Line
 use Rattle.demands.proofs.Contracts.{Settled, settled, SettledWith, settled-with}
 
@@ -28,19 +28,19 @@ pub put-hex : SettledWith Text.put_hex.Reads.Learnt (λ k e. now (e .0))
 put-hex = settled-with (λ k a r e p. (p .place, p .written))
 
 -- fields
-pub put-data-fields : SettledWith Fields.put_data_fields.Reads.Learnt (λ k e. now (e .0))
+pub put-data-fields : SettledWith FieldText.put_data_fields.Reads.Learnt (λ k e. now (e .0))
 put-data-fields = settled-with (λ k a r e p. (p .place, p .written))
 
-pub put-synchronization-fields : SettledWith Fields.put_synchronization_fields.Reads.Learnt (λ k e. now (e .0))
+pub put-synchronization-fields : SettledWith FieldText.put_synchronization_fields.Reads.Learnt (λ k e. now (e .0))
 put-synchronization-fields = settled-with (λ k a r e p. (p .place, p .written))
 
-pub put-page : SettledWith Fields.put_page.Reads.Learnt (λ k e. now (e .0))
+pub put-page : SettledWith FieldText.put_page.Reads.Learnt (λ k e. now (e .0))
 put-page = settled-with (λ k a r e p. (p .place, p .written))
 
-pub put-named : SettledWith Fields.put_named.Reads.Learnt (λ k e. now (e .0))
+pub put-named : SettledWith FieldText.put_named.Reads.Learnt (λ k e. now (e .0))
 put-named = settled-with (λ k a r e p. (p .place, p .written))
 
-pub put-refusal : SettledWith Fields.put_refusal.Reads.Learnt (λ k e. now (e .0))
+pub put-refusal : SettledWith FieldText.put_refusal.Reads.Learnt (λ k e. now (e .0))
 put-refusal = settled-with (λ k a r e p. (p .place, p .written))
 
 -- line

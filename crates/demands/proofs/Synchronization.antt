@@ -11,8 +11,8 @@ use Rattle.wire.specs.Fields.{u16At, u32At, byteAt, be16}
 use Rattle.refusal.specs.Check.{choose, framing}
 use Rattle.refusal.proofs.Laws.{All, all-hold}
 use Rattle.pdu.specs.Head.{lengthOf}
-use Rattle.framing.specs.Bytes.{framingHead}
-use Rattle.framing.specs.declared.Edition.the-variants.{E2018}
+use Rattle.pdu.specs.Head.{layerHead}
+use Rattle.pdu.specs.declared.Edition.the-variants.{E2018}
 use Rattle.extended.specs.Bytes.{synchronizationFramingBytes}
 use Rattle.extended.specs.Extended.{extendedChecks}
 use Rattle.extended.specs.declared.synchronization.SynchronizationFields.{SynchronizationFields}
@@ -36,7 +36,7 @@ use Rattle.demands.proofs.Segments.{join-cuts, field8, field16}
 
 -- a synchronization packet's framing layer, its reserved bytes any
 abbrev frame : SynchronizationFields → List ℕ → List ℕ
-frame f reserved = framingHead 11 1 ++ ((f .«sequence_number» ∷ be16 (f .«synchronization_address»)) ++ reserved)
+frame f reserved = layerHead 11 1 ++ ((f .«sequence_number» ∷ be16 (f .«synchronization_address»)) ++ reserved)
 
 abbrev recordWith : SynchronizationFields → Packet
 recordWith f = packet.Synchronization (record { fields = f })
@@ -74,7 +74,7 @@ module _ (cid : List ℕ) (f : SynchronizationFields) where
 
   -- the bytes before the reserved ones
   front : List ℕ
-  front = rooted 33 8 cid (framingHead 11 1 ++ (f .«sequence_number» ∷ be16 (f .«synchronization_address»)))
+  front = rooted 33 8 cid (layerHead 11 1 ++ (f .«sequence_number» ∷ be16 (f .«synchronization_address»)))
 
   regroup : (reserved rest : List ℕ) → front ++ (reserved ++ rest) ≡ with reserved rest
   unfolding front

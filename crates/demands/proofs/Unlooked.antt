@@ -11,11 +11,12 @@ use Rattle.wire.specs.Fields.{byteAt, u16At, u32At, partOf}
 use Rattle.refusal.specs.Check.{Check, _≤?_, choose, reading}
 use Rattle.refusal.proofs.Tests.{decide}
 use Rattle.pdu.specs.Head.{lengthOf}
-use Rattle.framing.specs.declared.Edition.the-variants.{E2009}
-use Rattle.framing.specs.Data.{nameField, dataChecks}
+use Rattle.pdu.specs.declared.Edition.the-variants.{E2009}
+use Rattle.framing.specs.Data.{dataChecks}
+use Rattle.name.specs.Name.{nameField}
 use Rattle.root.specs.Root.{preambleChecks, rootChecks, rootPart}
 use Rattle.packet.specs.Packet.{framingPart, cidOf}
-use Rattle.packet.specs.declared.Place.{Place}
+use Rattle.packet.specs.declared.Span.{Span}
 use Rattle.parts.specs.Parts.{shownAt}
 use Rattle.edition2009.specs.Packet.{dataRecord2009, packet2009Of, withCid2009, reading2009Of}
 use Rattle.edition2009.specs.declared.DataRecord2009.{DataRecord2009}
@@ -25,7 +26,7 @@ use Rattle.edition2009.specs.declared.Reading2009.{Reading2009}
 use Rattle.demands.specs.Content2009.{contentWith2009, meaning2009}
 use Rattle.demands.specs.Ignored.{Between}
 use Rattle.demands.specs.Unlooked.{AlikeTo2009}
-use Rattle.demands.proofs.Places.{data-places-2009}
+use Rattle.demands.proofs.Spans.{data-spans-2009}
 
 -- The same of two parts that start at byte k of their datagrams: parts of parts are alike again.
 record Alike (k : ℕ) (s t : List ℕ) : Type 0 where
@@ -146,7 +147,7 @@ module _ (d e : List ℕ) (a : Alike 0 d e) where
       (alike-take start (drop start d) (drop start e) (alike-drop 0 d e a start start (zero-add start)) len)
       (λ i h z. none i (omega (arith, length-take len (drop start d))) z)
 
-  shown-same : (p : Place) → ((i : ℕ) → i < p .len → Between 109 112 (p .start + i) → ⊥) → shownAt d p ≡ shownAt e p
+  shown-same : (p : Span) → ((i : ℕ) → i < p .len → Between 109 112 (p .start + i) → ⊥) → shownAt d p ≡ shownAt e p
   unfolding partOf
   shown-same p none =
       ap₂ (λ (n : ℕ) (l : List ℕ). choose (p .start + p .len ≤? n) l []) (a .long) (part-same (p .start) (p .len) none)
@@ -164,7 +165,7 @@ module _ (d e : List ℕ) (a : Alike 0 d e) where
 
   content-same : (x : Packet2009) → reading2009Of d .packet ≡ x → (cid : List ℕ) → contentWith2009 d cid x ≡ contentWith2009 e cid x
   content-same (Data x) h cid =
-      let w = data-places-2009 d x h in
+      let w = data-spans-2009 d x h in
       let name : shownAt d (x .name) ≡ shownAt e (x .name) = shown-same (x .name) (λ i k z. omega (arith, w .0 .first, w .0 .last)) in
       let values : shownAt d (x .values) ≡ shownAt e (x .values) = shown-same (x .values) (λ i k z. omega (arith, w .1 .first)) in
       cc

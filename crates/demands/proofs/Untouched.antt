@@ -10,7 +10,7 @@ use Rattle.refusal.specs.declared.Refusal.{Refusal}
 use Rattle.refusal.specs.Check.{Check}
 use Rattle.refusal.proofs.Laws.{found}
 use Rattle.discovery.specs.declared.DiscoveryFields.{DiscoveryFields}
-use Rattle.framing.specs.declared.data.DataFields.{DataFields}
+use Rattle.framing.specs.declared.DataFields.{DataFields}
 use Rattle.extended.specs.declared.synchronization.SynchronizationFields.{SynchronizationFields}
 use Rattle.pack.specs.Writing.{roomCheck, dataBytes, synchronizationBytes, discoveryBytes, dataLength, synchronizationLength, discoveryLength, dataWriteChecks, synchronizationWriteChecks, discoveryWriteChecks, packedOf, afterPack}
 use Rattle.pack.specs.declared.Packed.{Packed}

@@ -7,4 +7,4 @@ pub mod Unlooked
 pub mod Examples
 pub mod Definitions
 pub mod Kinds
-pub mod Places
+pub mod Spans

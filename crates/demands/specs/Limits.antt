@@ -10,7 +10,7 @@ use Rattle.name.specs.Name.{writtenNameChecks}
 use Rattle.name.specs.CodePoint.{Encoded}
 use Rattle.discovery.specs.Universes.{orderChecks}
 use Rattle.discovery.specs.declared.DiscoveryFields.{DiscoveryFields}
-use Rattle.framing.specs.declared.data.DataFields.{DataFields}
+use Rattle.framing.specs.declared.DataFields.{DataFields}
 use Rattle.extended.specs.declared.synchronization.SynchronizationFields.{SynchronizationFields}
 
 -- a name of well-formed UTF-8, at most 63 bytes, no zero: the checks of a written name

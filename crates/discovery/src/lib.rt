@@ -6,6 +6,7 @@ use refusal::Refusal;
 use wire::constants::E131_UNIVERSE_DISCOVERY_LAYER_MAX_LENGTH;
 use wire::constants::E131_UNIVERSE_DISCOVERY_LAYER_MIN_LENGTH;
 use wire::constants::VECTOR_UNIVERSE_DISCOVERY_UNIVERSE_LIST;
+use wire::layout::DISCOVERY_LENGTH;
 ghost use mathlib.Core.Bool.{true};
 ghost use mathlib.Core.Path.{_≡_};
 ghost use Prim.Native.Nat.{_+_, _*_, _≤_, _<_};
@@ -21,7 +22,7 @@ const E131_DISCOVERY_LAYER_PAGE_FIELD_INDEX: usize = 6;
 
 const E131_DISCOVERY_LAYER_LAST_PAGE_FIELD_INDEX: usize = 7;
 
-const E131_DISCOVERY_LAYER_UNIVERSE_LIST_FIELD_INDEX: usize = 8;
+const E131_DISCOVERY_LAYER_UNIVERSE_LIST_FIELD_INDEX: usize = DISCOVERY_LENGTH;
 
 const E131_UNIVERSE_FIELD_LENGTH: usize = 2;
 

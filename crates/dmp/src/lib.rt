@@ -7,6 +7,7 @@ use wire::constants::E131_DATA_PACKET_DMP_LAYER_FIRST_PROPERTY_FIELD;
 use wire::constants::E131_DMP_LAYER_ADDRESS_DATA_FIELD;
 use wire::constants::UNIVERSE_CHANNEL_CAPACITY;
 use wire::constants::VECTOR_DMP_SET_PROPERTY;
+use wire::layout::DMP_LENGTH;
 ghost use mathlib.Core.Path.{_≡_};
 ghost use lib.Seq.{sets};
 ghost use Rattle.refusal.specs.Check.{refusal, dmp as dmp·place};
@@ -21,7 +22,7 @@ const ADDRESS_INCREMENT_FIELD_INDEX: usize = 6;
 
 const PROPERTY_VALUE_COUNT_FIELD_INDEX: usize = 8;
 
-const PROPERTY_VALUES_FIELD_INDEX: usize = 10;
+const PROPERTY_VALUES_FIELD_INDEX: usize = DMP_LENGTH;
 
 pub enum Dmp {
     Values { count: usize },

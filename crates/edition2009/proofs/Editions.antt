@@ -15,8 +15,9 @@ use Rattle.name.specs.Name.{sourceNameChecks}
 use Rattle.pdu.specs.Head.{headChecks, lengthOf, vectorOf}
 use Rattle.pdu.specs.declared.VectorLength.the-variants.{Four}
 use Rattle.wire.specs.Fields.{u16At}
-use Rattle.framing.specs.declared.Edition.the-variants.{E2018, E2009}
-use Rattle.framing.specs.Data.{nameField, startChecks, priorityChecks, syncAddressChecks, restChecks, dataChecks}
+use Rattle.pdu.specs.declared.Edition.the-variants.{E2018, E2009}
+use Rattle.framing.specs.Data.{startChecks, priorityChecks, syncAddressChecks, restChecks, dataChecks}
+use Rattle.name.specs.Name.{nameField}
 use Rattle.extended.specs.Extended.{extendedChecks}
 use Rattle.root.specs.Root.{rootPart, vectorChecks, cidChecks}
 use Rattle.packet.specs.Packet.{rootVector, framingPart, framingChecks, dataRecord, extendedRecord, recordOf, packetOf, withCid, readingOf}

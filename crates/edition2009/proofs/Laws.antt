@@ -6,7 +6,7 @@ use native.Mathlib.Omega.{arith}
 use lib.ListN.{length, take, drop}
 use Rattle.refusal.proofs.Laws.{found, all-front, reading-++, inner}
 use Rattle.pdu.specs.Head.{lengthOf}
-use Rattle.framing.specs.declared.Edition.the-variants.{E2009}
+use Rattle.pdu.specs.declared.Edition.the-variants.{E2009}
 use Rattle.framing.specs.Data.{dataChecks}
 use Rattle.root.specs.Root.{preambleChecks, rootPart, rootChecks, rootOf}
 use Rattle.root.specs.declared.Root.{Root}

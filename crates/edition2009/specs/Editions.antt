@@ -4,7 +4,7 @@ use mathlib.Core.List.{List, _++_}
 use Rattle.refusal.specs.Check.{Check, refusal, root}
 use Rattle.pdu.specs.Head.{headChecks, lengthOf}
 use Rattle.pdu.specs.declared.VectorLength.the-variants.{Four}
-use Rattle.framing.specs.declared.data.DataFields.{DataFields}
+use Rattle.framing.specs.declared.DataFields.{DataFields}
 use Rattle.root.specs.Root.{preambleChecks, rootPart, lengthChecks}
 use Rattle.packet.specs.declared.DataRecord.{DataRecord}
 use Rattle.packet.specs.declared.Packet.{Packet}

@@ -7,10 +7,11 @@ use Rattle.refusal.specs.Check.{Check, reading}
 use Rattle.pdu.specs.Head.{lengthOf}
 use Rattle.name.specs.Name.{zeroAt}
 use Rattle.dmp.specs.Layer.{countOf}
-use Rattle.framing.specs.declared.Edition.the-variants.{E2009}
-use Rattle.framing.specs.Data.{nameField, dmpPart, dataChecks, option}
+use Rattle.pdu.specs.declared.Edition.the-variants.{E2009}
+use Rattle.framing.specs.Data.{dmpPart, dataChecks, option}
+use Rattle.name.specs.Name.{nameField}
 use Rattle.root.specs.Root.{preambleChecks, rootChecks, rootPart}
-use Rattle.packet.specs.Packet.{framingPart, place, cidOf}
+use Rattle.packet.specs.Packet.{framingPart, span, cidOf}
 use Rattle.edition2009.specs.declared.DataFields2009.{DataFields2009}
 use Rattle.edition2009.specs.declared.DataRecord2009.{DataRecord2009}
 use Rattle.edition2009.specs.declared.Packet2009.{Packet2009}
@@ -34,8 +35,8 @@ fields2009Of p = record {
 abbrev pub dataRecord2009 : List ℕ → DataRecord2009
 dataRecord2009 p = record {
   fields = fields2009Of p;
-  name = place 44 (zeroAt (nameField p));
-  values = place 125 (countOf (dmpPart p (lengthOf p)));
+  name = span 44 (zeroAt (nameField p));
+  values = span 125 (countOf (dmpPart p (lengthOf p)));
 }
 
 unfoldable pub packet2009Of : List ℕ → Packet2009

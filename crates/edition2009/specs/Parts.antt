@@ -1,13 +1,13 @@
 -- The parts of a datagram that a reading shows: none for a refusal.
-use Rattle.packet.specs.declared.Place.{Place}
-use Rattle.parts.specs.Parts.{nowherePlace}
+use Rattle.packet.specs.declared.Span.{Span}
+use Rattle.parts.specs.Parts.{noSpan}
 use Rattle.edition2009.specs.declared.Packet2009.{Packet2009}
 use Rattle.edition2009.specs.declared.Packet2009.the-variants.{Data, Refused}
 
-abbrev pub namePlace : Packet2009 → Place
-namePlace (Data x) = x .name
-namePlace (Refused r) = nowherePlace
+abbrev pub nameSpan : Packet2009 → Span
+nameSpan (Data x) = x .name
+nameSpan (Refused r) = noSpan
 
-abbrev pub valuesPlace : Packet2009 → Place
-valuesPlace (Data x) = x .values
-valuesPlace (Refused r) = nowherePlace
+abbrev pub valuesSpan : Packet2009 → Span
+valuesSpan (Data x) = x .values
+valuesSpan (Refused r) = noSpan

@@ -1,24 +1,24 @@
 // A whole datagram as the edition of 2009 reads it: data packets only, and neither the synchronization address
 // nor the option to force synchronization.
-use framing::Edition;
-use framing::data::Data;
-use framing::data::OPTIONS_FIELD_INDEX;
-use framing::data::PRIORITY_INDEX;
-use framing::data::SEQ_NUM_INDEX;
-use framing::data::UNIVERSE_INDEX;
-use packet::FRAMING_START;
-use packet::Place;
-use packet::SOURCE_NAME_START;
-use packet::VALUES_START;
+use framing::Data;
+use framing::OPTIONS_FIELD_INDEX;
+use framing::PRIORITY_INDEX;
+use framing::SEQ_NUM_INDEX;
+use framing::UNIVERSE_INDEX;
+use packet::Span;
+use pdu::Edition;
 use refusal::Refusal;
-use root::ROOT_LAYER_INDEX;
 use root::Root;
 use wire::constants::E131_PREVIEW_DATA_OPTION_BIT_MASK;
 use wire::constants::E131_STREAM_TERMINATION_OPTION_BIT_MASK;
+use wire::layout::FRAMING_START;
+use wire::layout::PREAMBLE_LENGTH;
+use wire::layout::SOURCE_NAME_START;
+use wire::layout::VALUES_START;
 ghost use mathlib.Core.Path.{_≡_};
 ghost use Rattle.parts.specs.Parts.{shownAt};
 ghost use Rattle.edition2009.specs.Packet.{fields2009Of, dataPacket2009Of, packet2009Of, reading2009Of};
-ghost use Rattle.edition2009.specs.Parts.{namePlace, valuesPlace};
+ghost use Rattle.edition2009.specs.Parts.{nameSpan, valuesSpan};
 
 #[repr(C)]
 pub struct DataFields2009 {
@@ -31,8 +31,8 @@ pub struct DataFields2009 {
 
 pub struct DataRecord2009 {
     pub fields: DataFields2009,
-    pub name: Place,
-    pub values: Place,
+    pub name: Span,
+    pub values: Span,
 }
 
 pub enum Packet2009 {
@@ -64,15 +64,15 @@ fn fields(p: &[u8]) -> DataFields2009
 fn parse_data(p: &[u8]) -> Packet2009
     ensures { λ r. ⌜ r ≡ dataPacket2009Of (now (p .entry)) ⌝ }
 {
-    match framing::data::parse(p, Edition::E2009) {
+    match framing::parse(p, Edition::E2009) {
         Data::Refused(r) => Packet2009::Refused(r),
         Data::Layer { name, values } => Packet2009::Data(DataRecord2009 {
             fields: fields(p),
-            name: Place {
+            name: Span {
                 start: SOURCE_NAME_START,
                 len: name,
             },
-            values: Place {
+            values: Span {
                 start: VALUES_START,
                 len: values,
             },
@@ -87,7 +87,7 @@ fn parse_packet(datagram: &[u8]) -> Packet2009
     match root::parse(datagram, Edition::E2009) {
         Root::Refused(r) => Packet2009::Refused(r),
         Root::Layer { vector: _, end } => {
-            parse_data(&datagram[FRAMING_START..ROOT_LAYER_INDEX + end])
+            parse_data(&datagram[FRAMING_START..PREAMBLE_LENGTH + end])
         }
     }
 }
@@ -108,36 +108,36 @@ pub fn parse(datagram: &[u8]) -> Reading2009
     }
 }
 
-fn name_place(packet: Packet2009) -> Place
-    ensures { λ r. ⌜ r ≡ namePlace packet ⌝ }
+fn name_span(packet: Packet2009) -> Span
+    ensures { λ r. ⌜ r ≡ nameSpan packet ⌝ }
 {
     match packet {
         Packet2009::Data(x) => x.name,
-        Packet2009::Refused(_) => Place { start: 0, len: 0 },
+        Packet2009::Refused(_) => Span { start: 0, len: 0 },
     }
 }
 
-fn values_place(packet: Packet2009) -> Place
-    ensures { λ r. ⌜ r ≡ valuesPlace packet ⌝ }
+fn values_span(packet: Packet2009) -> Span
+    ensures { λ r. ⌜ r ≡ valuesSpan packet ⌝ }
 {
     match packet {
         Packet2009::Data(x) => x.values,
-        Packet2009::Refused(_) => Place { start: 0, len: 0 },
+        Packet2009::Refused(_) => Span { start: 0, len: 0 },
     }
 }
 
 // The name, as the part of the datagram that it occupies; empty where there is none.
 pub fn name(datagram: &[u8], reading: Reading2009) -> &[u8]
-    ensures { λ r. ⌜ now r ≡ shownAt (now (datagram .entry)) (namePlace (reading .packet)) ⌝ }
+    ensures { λ r. ⌜ now r ≡ shownAt (now (datagram .entry)) (nameSpan (reading .packet)) ⌝ }
 {
     let packet = reading.packet;
-    parts::shown(datagram, name_place(packet))
+    parts::shown(datagram, name_span(packet))
 }
 
 // The values, likewise.
 pub fn values(datagram: &[u8], reading: Reading2009) -> &[u8]
-    ensures { λ r. ⌜ now r ≡ shownAt (now (datagram .entry)) (valuesPlace (reading .packet)) ⌝ }
+    ensures { λ r. ⌜ now r ≡ shownAt (now (datagram .entry)) (valuesSpan (reading .packet)) ⌝ }
 {
     let packet = reading.packet;
-    parts::shown(datagram, values_place(packet))
+    parts::shown(datagram, values_span(packet))
 }

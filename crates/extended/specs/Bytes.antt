@@ -6,7 +6,7 @@ use Rattle.wire.specs.Fields.{be16, be32, join}
 use Rattle.name.specs.Name.{nameBytes}
 use Rattle.discovery.specs.declared.DiscoveryFields.{DiscoveryFields}
 use Rattle.discovery.specs.Layer.{discoveryBytes}
-use Rattle.framing.specs.Bytes.{framingHead}
+use Rattle.pdu.specs.Head.{layerHead}
 use Rattle.extended.specs.declared.synchronization.SynchronizationFields.{SynchronizationFields}
 
 -- sync: flags and length, vector 1; sequence, sync address, two reserved bytes
@@ -14,8 +14,8 @@ abbrev pub syncFieldBytes : SynchronizationFields → List ℕ
 syncFieldBytes f = join ((f .«sequence_number» ∷ []) ∷ be16 (f .«synchronization_address») ∷ be16 0 ∷ [])
 
 unfoldable pub synchronizationFramingBytes : SynchronizationFields → List ℕ
-synchronizationFramingBytes f = framingHead 11 1 ++ syncFieldBytes f
+synchronizationFramingBytes f = layerHead 11 1 ++ syncFieldBytes f
 
 -- discovery: flags and length, vector 2; name; four reserved bytes; the discovery layer
 unfoldable pub discoveryFramingBytes : DiscoveryFields → List ℕ → List ℕ → List ℕ
-discoveryFramingBytes f name us = framingHead (82 + 2 * length us) 2 ++ (nameBytes name ++ (be32 0 ++ discoveryBytes f us))
+discoveryFramingBytes f name us = layerHead (82 + 2 * length us) 2 ++ (nameBytes name ++ (be32 0 ++ discoveryBytes f us))

@@ -6,7 +6,7 @@ use Rattle.name.specs.Name.{zeroAt}
 use Rattle.pdu.specs.Head.{headChecks, lengthOf, vectorOf}
 use Rattle.pdu.specs.declared.VectorLength.the-variants.{Four}
 use Rattle.discovery.specs.Layer.{countIn, fieldsOf as pageOf}
-use Rattle.framing.specs.Data.{nameField}
+use Rattle.name.specs.Name.{nameField}
 use Rattle.extended.specs.Synchronization.{synchronizationChecks, fieldsOf as synchronizationFields}
 use Rattle.extended.specs.UniverseDiscovery.{discoveryFramingChecks, discoveryPart}
 use Rattle.extended.specs.declared.Extended.{Extended}

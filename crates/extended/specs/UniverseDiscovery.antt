@@ -6,7 +6,7 @@ use Rattle.refusal.specs.Check.{Check, check, refusal, framing, _≤?_, reading
 use Rattle.name.specs.Name.{zeroAt, sourceNameChecks}
 use Rattle.pdu.specs.Head.{lengthOf}
 use Rattle.discovery.specs.Layer.{discoveryChecks, fieldsOf, countIn}
-use Rattle.framing.specs.Data.{nameField}
+use Rattle.name.specs.Name.{nameField}
 use Rattle.extended.specs.declared.«universe_discovery».DiscoveryFraming.{DiscoveryFraming}
 use Rattle.extended.specs.declared.«universe_discovery».DiscoveryFraming.the-variants.{Layer, Refused}
 

@@ -68,7 +68,7 @@ pub fn pack(buf: &mut [u8], at: usize, fields: SynchronizationFields)
     if buf.len() < at {
         return;
     }
-    framing::put_head(
+    pdu::put_head(
         buf,
         at,
         E131_UNIVERSE_SYNC_PACKET_FRAMING_LAYER_LENGTH as usize,

@@ -5,20 +5,23 @@ use name::SourceName;
 use refusal::Refusal;
 use wire::constants::E131_UNIVERSE_DISCOVERY_FRAMING_LAYER_MIN_LENGTH;
 use wire::constants::VECTOR_E131_EXTENDED_DISCOVERY;
+use wire::layout::DISCOVERY_FRAMING_LENGTH;
+use wire::layout::DISCOVERY_LENGTH;
+use wire::layout::HEAD_LENGTH;
 ghost use lib.Seq.{sets};
 ghost use Rattle.extended.specs.Bytes.{discoveryFramingBytes};
 ghost use mathlib.Core.Path.{_≡_};
 ghost use Rattle.extended.specs.UniverseDiscovery.{discoveryFramingOf};
 
 // Indexes of the fields, from the layer's first byte.
-const E131_DISCOVERY_FRAMING_LAYER_SOURCE_NAME_FIELD_INDEX: usize = 6;
+const E131_DISCOVERY_FRAMING_LAYER_SOURCE_NAME_FIELD_INDEX: usize = HEAD_LENGTH;
 
 const E131_DISCOVERY_FRAMING_LAYER_RESERVE_FIELD_INDEX: usize = 70;
 
-const E131_DISCOVERY_FRAMING_LAYER_DATA_INDEX: usize = 74;
+const E131_DISCOVERY_FRAMING_LAYER_DATA_INDEX: usize = DISCOVERY_FRAMING_LENGTH;
 
 // The layer's length with no universes.
-const EMPTY_LENGTH: usize = 82;
+const EMPTY_LENGTH: usize = DISCOVERY_FRAMING_LENGTH + DISCOVERY_LENGTH;
 
 // A layer that is read: how many bytes its name has, and its page with as many universes.
 pub enum DiscoveryFraming {
@@ -72,7 +75,7 @@ pub fn pack(buf: &mut [u8], at: usize, fields: DiscoveryFields, name: &[u8], uni
     if buf.len() < at {
         return;
     }
-    framing::put_head(
+    pdu::put_head(
         buf,
         at,
         EMPTY_LENGTH + 2 * universes.len(),

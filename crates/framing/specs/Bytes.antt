@@ -1,17 +1,13 @@
--- The start of a framing layer as bytes, and a data packet's layer, segment by segment in document 01's layout. Lengths follow from the counts.
+-- A data packet's framing layer as bytes, segment by segment in document 01's layout. Lengths follow from the counts.
 use Prim.Native.Nat.{ℕ, _+_}
 use mathlib.Core.Bool.{Bool, true, false}
 use mathlib.Core.List.{List, [], _∷_, _++_}
 use lib.ListN.{length}
-use Rattle.wire.specs.Fields.{be16, be32, join}
+use Rattle.wire.specs.Fields.{be16, join}
 use Rattle.name.specs.Name.{nameBytes}
-use Rattle.pdu.specs.Head.{flagsAndLength}
+use Rattle.pdu.specs.Head.{layerHead}
 use Rattle.dmp.specs.Layer.{dmpBytes}
-use Rattle.framing.specs.declared.data.DataFields.{DataFields}
-
--- flags and length, vector
-abbrev pub framingHead : ℕ → ℕ → List ℕ
-framingHead len vector = join (flagsAndLength len ∷ be32 vector ∷ [])
+use Rattle.framing.specs.declared.DataFields.{DataFields}
 
 -- 0x80 preview, 0x40 terminated, 0x20 force synchronization; the low five bits are zero
 abbrev pub bitOf : Bool → ℕ → ℕ
@@ -28,4 +24,4 @@ fieldBytes f =
 
 -- data: flags and length, vector 2; name; the fields; the DMP layer
 unfoldable pub dataFramingBytes : DataFields → List ℕ → List ℕ → List ℕ
-dataFramingBytes f name values = framingHead (87 + length values) 2 ++ (nameBytes name ++ (fieldBytes f ++ dmpBytes values))
+dataFramingBytes f name values = layerHead (87 + length values) 2 ++ (nameBytes name ++ (fieldBytes f ++ dmpBytes values))

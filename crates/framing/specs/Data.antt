@@ -6,20 +6,17 @@ use lib.ListN.{length, take, drop}
 use lib.Dec.{eqb}
 use Rattle.wire.specs.Fields.{byteAt, u16At}
 use Rattle.refusal.specs.Check.{Check, check, refusal, framing, reaches, _≤?_, _=?_, _and_, reading}
-use Rattle.name.specs.Name.{zeroAt, sourceNameChecks}
+use Rattle.name.specs.Name.{nameField, zeroAt, sourceNameChecks}
 use Rattle.pdu.specs.Head.{headChecks, lengthOf, vectorOf}
 use Rattle.pdu.specs.declared.VectorLength.the-variants.{Four}
 use Rattle.dmp.specs.Layer.{dmpChecks, countOf}
-use Rattle.framing.specs.declared.Edition.{Edition}
-use Rattle.framing.specs.declared.Edition.the-variants.{E2018, E2009}
-use Rattle.framing.specs.declared.data.Data.{Data}
-use Rattle.framing.specs.declared.data.Data.the-variants.{Layer, Refused}
-use Rattle.framing.specs.declared.data.DataFields.{DataFields}
+use Rattle.pdu.specs.declared.Edition.{Edition}
+use Rattle.pdu.specs.declared.Edition.the-variants.{E2018, E2009}
+use Rattle.framing.specs.declared.Data.{Data}
+use Rattle.framing.specs.declared.Data.the-variants.{Layer, Refused}
+use Rattle.framing.specs.declared.DataFields.{DataFields}
 
--- the name's field; and the DMP layer's part, byte 77 up to the framing length
-abbrev pub nameField : List ℕ → List ℕ
-nameField p = take 64 (drop 6 p)
-
+-- the DMP layer's part, byte 77 up to the framing length
 abbrev pub dmpPart : List ℕ → ℕ → List ℕ
 dmpPart p len = take (len - 77) (drop 77 p)
 

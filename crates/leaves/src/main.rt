@@ -5,14 +5,12 @@ use refusal::Refusal;
 use universe::Multicast;
 ghost use Prim.Native.Nat.{_<_, _^_};
 
-const STANDARD_OUTPUT: i32 = 1;
-
 fn word(s: &[u8]) {
-    io::write_all(STANDARD_OUTPUT, s);
+    io::write_all(libc::STDOUT_FILENO, s);
 }
 
 fn number(n: u64) {
-    io::print_decimal(STANDARD_OUTPUT, n);
+    io::print_decimal(libc::STDOUT_FILENO, n);
 }
 
 // An address and its port as one number, or 0 where there is none.

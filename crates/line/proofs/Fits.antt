@@ -9,7 +9,7 @@ use Rattle.refusal.specs.declared.Refusal.{Refusal}
 use Rattle.refusal.proofs.Tests.{choice}
 use Rattle.wire.specs.Fields.{partOf}
 use Rattle.wire.specs.Bytes.{Bytes}
-use Rattle.framing.specs.declared.data.DataFields.{DataFields}
+use Rattle.framing.specs.declared.DataFields.{DataFields}
 use Rattle.extended.specs.declared.synchronization.SynchronizationFields.{SynchronizationFields}
 use Rattle.discovery.specs.declared.DiscoveryFields.{DiscoveryFields}
 use Rattle.packet.specs.Packet.{readingOf}
@@ -19,14 +19,14 @@ use Rattle.packet.specs.declared.Packet.the-variants.{Data, Synchronization, Di
 use Rattle.packet.specs.declared.Reading.{Reading}
 use Rattle.packet.proofs.Whole.{read}
 use Rattle.packet.proofs.Sizes.{sized}
-use Rattle.parts.specs.Parts.{shownAt, namePlace}
+use Rattle.parts.specs.Parts.{shownAt, nameSpan}
 use Rattle.text.specs.Digits.{decimal}
 use Rattle.text.proofs.Decimals.{decimal-length}
 use Rattle.text.proofs.Hex.{hex-length}
-use Rattle.fields.specs.Texts.{dataFieldsText, synchronizationText, pageText, refusalText}
+use Rattle.field_text.specs.Texts.{dataFieldsText, synchronizationText, pageText, refusalText}
 use Rattle.line.specs.Lines.{dataLine, synchronizationLine, discoveryLine, refusedLine, packetLine, lineOf, lastLine}
-use Rattle.line.specs.declared.Ending.{Ending}
-use Rattle.line.specs.declared.Ending.the-variants.{End, Cut, Bad}
+use Rattle.capture.specs.declared.Ending.{Ending}
+use Rattle.capture.specs.declared.Ending.the-variants.{End, Cut, Bad}
 
 -- the digits of a number that the code's types hold
 digits : (n : ℕ) → n < 0x1_0000_0000_0000_0000 → length (decimal n) ≤ 20
@@ -78,7 +78,7 @@ part-fits d start len =
 
 line-fits : (n : ℕ) (d : List ℕ) (r : Reading) → n < 0x1_0000_0000_0000_0000 → Sized (r .packet) → length (lineOf n d r) ≤ 2 * length d + 174
 line-fits n d r h k =
-    let p = namePlace (r .packet) in
+    let p = nameSpan (r .packet) in
     omega (arith, packet-fits n (shownAt d p) (r .packet) h k, part-fits d (p .start) (p .len))
 
 -- The line of entry n, a datagram of bytes and its reading: twice the bytes of the datagram, and 174 more.

@@ -9,11 +9,11 @@ use Rattle.packet.specs.declared.DiscoveryRecord.{DiscoveryRecord}
 use Rattle.packet.specs.declared.Packet.{Packet}
 use Rattle.packet.specs.declared.Packet.the-variants.{Data, Synchronization, Discovery, Refused}
 use Rattle.packet.specs.declared.Reading.{Reading}
-use Rattle.parts.specs.Parts.{shownAt, namePlace}
+use Rattle.parts.specs.Parts.{shownAt, nameSpan}
 use Rattle.text.specs.Digits.{ascii, decimal, hex}
-use Rattle.fields.specs.Texts.{dataFieldsText, synchronizationText, pageText, refusalText}
-use Rattle.line.specs.declared.Ending.{Ending}
-use Rattle.line.specs.declared.Ending.the-variants.{End, Cut, Bad}
+use Rattle.field_text.specs.Texts.{dataFieldsText, synchronizationText, pageText, refusalText}
+use Rattle.capture.specs.declared.Ending.{Ending}
+use Rattle.capture.specs.declared.Ending.the-variants.{End, Cut, Bad}
 
 -- `N data name H prio P sync A seq S flags F univ U values K`
 unfoldable pub dataLine : ℕ → List ℕ → DataRecord → List ℕ
@@ -57,7 +57,7 @@ packetLine n name (Refused r) = refusedLine n r
 
 -- the line of entry n: a datagram and its reading
 abbrev pub lineOf : ℕ → List ℕ → Reading → List ℕ
-lineOf n d r = packetLine n (shownAt d (namePlace (r .packet))) (r .packet)
+lineOf n d r = packetLine n (shownAt d (nameSpan (r .packet))) (r .packet)
 
 -- `end N`, `cut N`, `bad N`
 abbrev pub lastWord : Ending → List ℕ

@@ -1,4 +1,5 @@
 // The lines that tell what was read: one for each entry of a capture, and a last one.
+use capture::Ending;
 use packet::DataRecord;
 use packet::DiscoveryRecord;
 use packet::Packet;
@@ -8,20 +9,13 @@ use refusal::Refusal;
 ghost use Rattle.text.specs.Put.{Put};
 ghost use Rattle.line.specs.Lines.{dataLine, synchronizationLine, discoveryLine, refusedLine, lineOf, lastWord, lastLine};
 
-// How a capture ends: at its end, inside an entry or its length, at a bad length.
-pub enum Ending {
-    End,
-    Cut,
-    Bad,
-}
-
 fn put_data(out: &mut [u8], at: usize, n: u64, name: &[u8], x: DataRecord) -> usize
     ensures { λ r. ⌜ Put (now (out .entry)) (now (out .exit)) at r (dataLine n (now (name .entry)) x) ⌝ }
 {
     let fields = x.fields;
     let values = x.values;
-    let next = fields::put_named(out, at, n, b" data name ", name);
-    let next = fields::put_data_fields(out, next, fields);
+    let next = field_text::put_named(out, at, n, b" data name ", name);
+    let next = field_text::put_data_fields(out, next, fields);
     let next = text::put_field(out, next, b" values ", values.len as u64);
     text::put(out, next, b"\n")
 }
@@ -32,7 +26,7 @@ fn put_synchronization(out: &mut [u8], at: usize, n: u64, x: SynchronizationReco
     let fields = x.fields;
     let next = text::put_decimal(out, at, n);
     let next = text::put(out, next, b" sync");
-    let next = fields::put_synchronization_fields(out, next, fields);
+    let next = field_text::put_synchronization_fields(out, next, fields);
     text::put(out, next, b"\n")
 }
 
@@ -41,8 +35,8 @@ fn put_discovery(out: &mut [u8], at: usize, n: u64, name: &[u8], x: DiscoveryRec
 {
     let fields = x.fields;
     let universes = x.universes;
-    let next = fields::put_named(out, at, n, b" disc name ", name);
-    let next = fields::put_page(out, next, fields);
+    let next = field_text::put_named(out, at, n, b" disc name ", name);
+    let next = field_text::put_page(out, next, fields);
     let next = text::put_field(out, next, b" count ", (universes.len / 2) as u64);
     text::put(out, next, b"\n")
 }
@@ -51,7 +45,7 @@ pub fn put_refused(out: &mut [u8], at: usize, n: u64, refusal: Refusal) -> usize
     ensures { λ r. ⌜ Put (now (out .entry)) (now (out .exit)) at r (refusedLine n refusal) ⌝ }
 {
     let next = text::put_decimal(out, at, n);
-    let next = fields::put_refusal(out, next, refusal);
+    let next = field_text::put_refusal(out, next, refusal);
     text::put(out, next, b"\n")
 }
 

@@ -1,11 +1,15 @@
 -- Names in a field, and names that may be written.
 use Prim.Native.Nat.{ℕ, suc, _+_}
 use mathlib.Core.List.{List, [], _∷_, _++_}
-use lib.ListN.{length, take, replicate}
+use lib.ListN.{length, take, drop, replicate}
 use Rattle.refusal.specs.Check.{Check, check, refusal, framing, nowhere, _≤?_, _=?_, choose, reading}
 use Rattle.name.specs.Utf8.{wellFormed}
 use Rattle.name.specs.declared.SourceName.{SourceName}
 use Rattle.name.specs.declared.SourceName.the-variants as source
+
+-- the field of a name, bytes 6..69 of the part of each framing layer that has one
+abbrev pub nameField : List ℕ → List ℕ
+nameField p = take 64 (drop 6 p)
 
 -- how many bytes stand before the first zero, or all of them
 unfoldable pub zeroAt : List ℕ → ℕ

@@ -9,7 +9,7 @@ use Rattle.pdu.specs.Head.{flagsAndLength}
 use Rattle.discovery.specs.Universes.{orderChecks}
 use Rattle.discovery.specs.declared.DiscoveryFields.{DiscoveryFields}
 use Rattle.framing.specs.Bytes.{dataFramingBytes}
-use Rattle.framing.specs.declared.data.DataFields.{DataFields}
+use Rattle.framing.specs.declared.DataFields.{DataFields}
 use Rattle.extended.specs.Bytes.{synchronizationFramingBytes, discoveryFramingBytes}
 use Rattle.extended.specs.declared.synchronization.SynchronizationFields.{SynchronizationFields}
 use Rattle.pack.specs.declared.Packed.{Packed}

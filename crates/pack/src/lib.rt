@@ -1,7 +1,7 @@
 // Packets written into a lent buffer. Every test comes before the first byte: a refused write leaves the buffer as found.
 use discovery::DiscoveryFields;
 use extended::synchronization::SynchronizationFields;
-use framing::data::DataFields;
+use framing::DataFields;
 use refusal::Checked;
 use refusal::Refusal;
 use wire::constants::DISCOVERY_UNI_PER_PAGE;
@@ -10,6 +10,12 @@ use wire::constants::E131_PREAMBLE_SIZE;
 use wire::constants::UNIVERSE_CHANNEL_CAPACITY;
 use wire::constants::VECTOR_ROOT_E131_DATA;
 use wire::constants::VECTOR_ROOT_E131_EXTENDED;
+use wire::layout::CID_START;
+use wire::layout::FRAMING_START;
+use wire::layout::PREAMBLE_LENGTH;
+use wire::layout::SYNCHRONIZATION_FRAMING_LENGTH;
+use wire::layout::UNIVERSES_START;
+use wire::layout::VALUES_START;
 ghost use mathlib.Core.List.{_++_};
 ghost use mathlib.Core.Path.{_≡_};
 ghost use Prim.Native.Nat.{_+_, _*_};
@@ -18,23 +24,18 @@ ghost use lib.Seq.{sets};
 ghost use Rattle.refusal.specs.Check.{refusal, checkedOf, nowhere};
 ghost use Rattle.pack.specs.Writing.{rootHead, dataBytes, synchronizationBytes, discoveryBytes, dataLength, synchronizationLength, discoveryLength, dataWriteChecks, synchronizationWriteChecks, discoveryWriteChecks, packedOf, afterPack};
 
-// Where the CID and the framing layer start.
-const CID_START: usize = 22;
-
-const FRAMING_START: usize = 38;
-
 // How long packets and their root layers are, with no values and no universes.
-const EMPTY_DATA_LENGTH: usize = 125;
+const EMPTY_DATA_LENGTH: usize = VALUES_START;
 
-const EMPTY_DATA_ROOT_LENGTH: usize = 109;
+const EMPTY_DATA_ROOT_LENGTH: usize = VALUES_START - PREAMBLE_LENGTH;
 
-const SYNCHRONIZATION_LENGTH: usize = 49;
+const SYNCHRONIZATION_LENGTH: usize = FRAMING_START + SYNCHRONIZATION_FRAMING_LENGTH;
 
-const SYNCHRONIZATION_ROOT_LENGTH: usize = 33;
+const SYNCHRONIZATION_ROOT_LENGTH: usize = SYNCHRONIZATION_LENGTH - PREAMBLE_LENGTH;
 
-const EMPTY_DISCOVERY_LENGTH: usize = 120;
+const EMPTY_DISCOVERY_LENGTH: usize = UNIVERSES_START;
 
-const EMPTY_DISCOVERY_ROOT_LENGTH: usize = 104;
+const EMPTY_DISCOVERY_ROOT_LENGTH: usize = UNIVERSES_START - PREAMBLE_LENGTH;
 
 // A packet that is written, with its length.
 pub enum Packed {
@@ -124,7 +125,7 @@ fn put_data(buf: &mut [u8], cid: [u8; 16], fields: DataFields, name: &[u8], valu
         VECTOR_ROOT_E131_DATA,
         cid,
     );
-    framing::data::pack(buf, FRAMING_START, fields, name, values);
+    framing::pack(buf, FRAMING_START, fields, name, values);
 }
 
 fn put_synchronization(buf: &mut [u8], cid: [u8; 16], fields: SynchronizationFields)

@@ -10,7 +10,7 @@ use Rattle.refusal.specs.Check.{_≤?_, _=?_, choose}
 use Rattle.refusal.proofs.Tests.{chosen}
 use Rattle.refusal.proofs.Laws.{found, all-front, reading-++, reading-choose, inner}
 use Rattle.pdu.specs.Head.{lengthOf}
-use Rattle.framing.specs.declared.Edition.the-variants.{E2018}
+use Rattle.pdu.specs.declared.Edition.the-variants.{E2018}
 use Rattle.framing.specs.Data.{dataChecks}
 use Rattle.extended.specs.Extended.{extendedChecks}
 use Rattle.root.specs.Root.{preambleChecks, rootPart, rootChecks, rootOf}

@@ -15,9 +15,10 @@ use Rattle.dmp.specs.Layer as dmpLayer
 use Rattle.dmp.specs.Layer.{countChecks, dmpChecks}
 use Rattle.discovery.specs.Layer.{ownChecks, listPart, countIn}
 use Rattle.discovery.proofs.Laws.{universes-words}
-use Rattle.framing.specs.declared.Edition.the-variants.{E2018}
+use Rattle.pdu.specs.declared.Edition.the-variants.{E2018}
 use Rattle.framing.specs.Data as dataLayer
-use Rattle.framing.specs.Data.{nameField, dmpPart, priorityChecks, syncAddressChecks, universeChecks, dataChecks}
+use Rattle.framing.specs.Data.{dmpPart, priorityChecks, syncAddressChecks, universeChecks, dataChecks}
+use Rattle.name.specs.Name.{nameField}
 use Rattle.extended.specs.Synchronization.{synchronizationChecks}
 use Rattle.extended.specs.UniverseDiscovery.{discoveryPart, startChecks}
 use Rattle.extended.specs.Extended.{kindChecks}

@@ -16,9 +16,10 @@ use Rattle.discovery.specs.Layer as discoveryLayer
 use Rattle.discovery.specs.Layer.{listPart, countIn}
 use Rattle.discovery.specs.Universes.{universes, pairs, ascends, listChecks}
 use Rattle.discovery.proofs.Laws.{every-pairs}
-use Rattle.framing.specs.declared.Edition.the-variants.{E2018}
+use Rattle.pdu.specs.declared.Edition.the-variants.{E2018}
 use Rattle.framing.specs.Data as dataLayer
-use Rattle.framing.specs.Data.{dataChecks, nameField, dmpPart, priorityChecks, syncAddressChecks, universeChecks}
+use Rattle.framing.specs.Data.{dataChecks, dmpPart, priorityChecks, syncAddressChecks, universeChecks}
+use Rattle.name.specs.Name.{nameField}
 use Rattle.extended.specs.Synchronization.{synchronizationChecks}
 use Rattle.extended.specs.UniverseDiscovery as discoveryFraming
 use Rattle.extended.specs.UniverseDiscovery.{discoveryPart, discoveryFramingChecks}

@@ -8,14 +8,15 @@ use Rattle.pdu.specs.declared.VectorLength.the-variants.{Four}
 use Rattle.name.specs.Name.{zeroAt}
 use Rattle.dmp.specs.Layer.{countOf}
 use Rattle.discovery.specs.Layer as discoveryLayer
-use Rattle.framing.specs.declared.Edition.the-variants.{E2018}
+use Rattle.pdu.specs.declared.Edition.the-variants.{E2018}
 use Rattle.framing.specs.Data as dataLayer
-use Rattle.framing.specs.Data.{nameField, dmpPart, dataChecks}
+use Rattle.framing.specs.Data.{dmpPart, dataChecks}
+use Rattle.name.specs.Name.{nameField}
 use Rattle.extended.specs.Synchronization as syncLayer
 use Rattle.extended.specs.UniverseDiscovery.{discoveryPart}
 use Rattle.extended.specs.Extended.{extendedChecks}
 use Rattle.root.specs.Root.{preambleChecks, rootChecks, rootPart}
-use Rattle.packet.specs.declared.Place.{Place}
+use Rattle.packet.specs.declared.Span.{Span}
 use Rattle.packet.specs.declared.DataRecord.{DataRecord}
 use Rattle.packet.specs.declared.SynchronizationRecord.{SynchronizationRecord}
 use Rattle.packet.specs.declared.DiscoveryRecord.{DiscoveryRecord}
@@ -38,14 +39,14 @@ abbrev pub packetChecks : List ℕ → List Check
 packetChecks d = (preambleChecks d ++ rootChecks E2018 (rootPart d)) ++ framingChecks d
 
 -- the records
-abbrev pub place : ℕ → ℕ → Place
-place start len = record { start = start; len = len }
+abbrev pub span : ℕ → ℕ → Span
+span start len = record { start = start; len = len }
 
 abbrev pub dataRecord : List ℕ → DataRecord
 dataRecord p = record {
   fields = dataLayer.fieldsOf p;
-  name = place 44 (zeroAt (nameField p));
-  values = place 125 (countOf (dmpPart p (lengthOf p)));
+  name = span 44 (zeroAt (nameField p));
+  values = span 125 (countOf (dmpPart p (lengthOf p)));
 }
 
 abbrev pub synchronizationRecord : List ℕ → SynchronizationRecord
@@ -56,8 +57,8 @@ discoveryRecord p =
     let q = discoveryPart p (lengthOf p) in
     record {
       fields = discoveryLayer.fieldsOf q;
-      name = place 44 (zeroAt (nameField p));
-      universes = place 120 (2 * discoveryLayer.countIn (lengthOf q));
+      name = span 44 (zeroAt (nameField p));
+      universes = span 120 (2 * discoveryLayer.countIn (lengthOf q));
     }
 
 abbrev pub extendedRecord : List ℕ → Packet

@@ -1,6 +1,6 @@
--- How large the numbers of a reading are: those of one byte and of two, and of places no more than their layer has room to say.
+-- How large the numbers of a reading are: those of one byte and of two, and of spans no more than their layer has room to say.
 use Prim.Native.Nat.{ℕ, _≤_, _<_}
-use Rattle.framing.specs.declared.data.DataFields.{DataFields}
+use Rattle.framing.specs.declared.DataFields.{DataFields}
 use Rattle.extended.specs.declared.synchronization.SynchronizationFields.{SynchronizationFields}
 use Rattle.discovery.specs.declared.DiscoveryFields.{DiscoveryFields}
 use Rattle.refusal.specs.declared.Refusal.{Refusal}

@@ -2,39 +2,33 @@
 use discovery::DiscoveryFields;
 use extended::Extended;
 use extended::synchronization::SynchronizationFields;
-use framing::Edition;
-use framing::data::Data;
-use framing::data::DataFields;
+use framing::Data;
+use framing::DataFields;
+use pdu::Edition;
 use refusal::Refusal;
-use root::ROOT_LAYER_INDEX;
 use root::Root;
 use wire::constants::E131_CID_FIELD_LENGTH;
 use wire::constants::VECTOR_ROOT_E131_DATA;
+use wire::layout::CID_START;
+use wire::layout::FRAMING_START;
+use wire::layout::PREAMBLE_LENGTH;
+use wire::layout::SOURCE_NAME_START;
+use wire::layout::UNIVERSES_START;
+use wire::layout::VALUES_START;
 ghost use mathlib.Core.Path.{_≡_};
 ghost use Rattle.packet.specs.Packet.{dataPacketOf, extendedPacketOf, packetOf, cidIn, readingOf};
 
-// Where the fields start in a datagram.
-const CID_START: usize = 22;
-
-pub const FRAMING_START: usize = 38;
-
-pub const SOURCE_NAME_START: usize = 44;
-
-const UNIVERSES_START: usize = 120;
-
-pub const VALUES_START: usize = 125;
-
 // Where something stands in a datagram.
 #[repr(C)]
-pub struct Place {
+pub struct Span {
     pub start: usize,
     pub len: usize,
 }
 
 pub struct DataRecord {
     pub fields: DataFields,
-    pub name: Place,
-    pub values: Place,
+    pub name: Span,
+    pub values: Span,
 }
 
 pub struct SynchronizationRecord {
@@ -44,8 +38,8 @@ pub struct SynchronizationRecord {
 // The universes are numbers of two bytes each.
 pub struct DiscoveryRecord {
     pub fields: DiscoveryFields,
-    pub name: Place,
-    pub universes: Place,
+    pub name: Span,
+    pub universes: Span,
 }
 
 pub enum Packet {
@@ -65,15 +59,15 @@ pub struct Reading {
 fn parse_data(p: &[u8]) -> Packet
     ensures { λ r. ⌜ r ≡ dataPacketOf (now (p .entry)) ⌝ }
 {
-    match framing::data::parse(p, Edition::E2018) {
+    match framing::parse(p, Edition::E2018) {
         Data::Refused(r) => Packet::Refused(r),
         Data::Layer { name, values } => Packet::Data(DataRecord {
-            fields: framing::data::fields(p),
-            name: Place {
+            fields: framing::fields(p),
+            name: Span {
                 start: SOURCE_NAME_START,
                 len: name,
             },
-            values: Place {
+            values: Span {
                 start: VALUES_START,
                 len: values,
             },
@@ -96,11 +90,11 @@ fn parse_extended(p: &[u8], whole: usize) -> Packet
             universes,
         } => Packet::Discovery(DiscoveryRecord {
             fields,
-            name: Place {
+            name: Span {
                 start: SOURCE_NAME_START,
                 len: name,
             },
-            universes: Place {
+            universes: Span {
                 start: UNIVERSES_START,
                 len: 2 * universes as usize,
             },
@@ -115,11 +109,11 @@ pub fn parse_packet(datagram: &[u8]) -> Packet
     match root::parse(datagram, Edition::E2018) {
         Root::Refused(r) => Packet::Refused(r),
         Root::Layer { vector, end } => {
-            let part = &datagram[FRAMING_START..ROOT_LAYER_INDEX + end];
+            let part = &datagram[FRAMING_START..PREAMBLE_LENGTH + end];
             if vector == VECTOR_ROOT_E131_DATA {
                 parse_data(part)
             } else {
-                parse_extended(part, datagram.len() - ROOT_LAYER_INDEX)
+                parse_extended(part, datagram.len() - PREAMBLE_LENGTH)
             }
         }
     }

@@ -5,49 +5,49 @@ use lib.Seq.{sets}
 use Rattle.wire.specs.Fields.{partOf}
 use Rattle.refusal.specs.Check.{check, refusal, nowhere, _≤?_, reading}
 use Rattle.discovery.specs.Universes.{allUniverses}
-use Rattle.packet.specs.Packet.{place, packetOf}
-use Rattle.packet.specs.declared.Place.{Place}
+use Rattle.packet.specs.Packet.{span, packetOf}
+use Rattle.packet.specs.declared.Span.{Span}
 use Rattle.packet.specs.declared.Packet.{Packet}
 use Rattle.packet.specs.declared.Packet.the-variants.{Data, Synchronization, Discovery, Refused}
-use Rattle.parts.specs.declared.Places.{Places}
+use Rattle.parts.specs.declared.Spans.{Spans}
 use Rattle.parts.specs.declared.Copied.{Copied}
 use Rattle.parts.specs.declared.Copied.the-variants as copied
 
--- a part is empty where its place runs past the datagram
-abbrev pub shownAt : List ℕ → Place → List ℕ
+-- a part is empty where its span runs past the datagram
+abbrev pub shownAt : List ℕ → Span → List ℕ
 shownAt d p = partOf d (p .start) (p .len)
 
 -- and for a refusal, or a kind without that field
-abbrev pub nowherePlace : Place
-nowherePlace = place 0 0
+abbrev pub noSpan : Span
+noSpan = span 0 0
 
-abbrev pub namePlace : Packet → Place
-namePlace (Data x) = x .name
-namePlace (Synchronization x) = nowherePlace
-namePlace (Discovery x) = x .name
-namePlace (Refused r) = nowherePlace
+abbrev pub nameSpan : Packet → Span
+nameSpan (Data x) = x .name
+nameSpan (Synchronization x) = noSpan
+nameSpan (Discovery x) = x .name
+nameSpan (Refused r) = noSpan
 
-abbrev pub valuesPlace : Packet → Place
-valuesPlace (Data x) = x .values
-valuesPlace (Synchronization x) = nowherePlace
-valuesPlace (Discovery x) = nowherePlace
-valuesPlace (Refused r) = nowherePlace
+abbrev pub valuesSpan : Packet → Span
+valuesSpan (Data x) = x .values
+valuesSpan (Synchronization x) = noSpan
+valuesSpan (Discovery x) = noSpan
+valuesSpan (Refused r) = noSpan
 
-abbrev pub placesOf : Packet → Places
-placesOf x = record { name = namePlace x; values = valuesPlace x }
+abbrev pub spansOf : Packet → Spans
+spansOf x = record { name = nameSpan x; values = valuesSpan x }
 
-abbrev pub universesPlace : Packet → Place
-universesPlace (Data x) = nowherePlace
-universesPlace (Synchronization x) = nowherePlace
-universesPlace (Discovery x) = x .universes
-universesPlace (Refused r) = nowherePlace
+abbrev pub universesSpan : Packet → Span
+universesSpan (Data x) = noSpan
+universesSpan (Synchronization x) = noSpan
+universesSpan (Discovery x) = x .universes
+universesSpan (Refused r) = noSpan
 
--- the universes at a place, and those that a datagram lists
-abbrev pub listedAt : List ℕ → Place → List ℕ
+-- the universes at a span, and those that a datagram lists
+abbrev pub listedAt : List ℕ → Span → List ℕ
 listedAt d p = allUniverses (shownAt d p)
 
 abbrev pub universesIn : List ℕ → List ℕ
-universesIn d = listedAt d (universesPlace (packetOf d))
+universesIn d = listedAt d (universesSpan (packetOf d))
 
 -- 31: no readable discovery packet, or no room for its universes
 abbrev pub copiedOf : Packet → ℕ → Copied

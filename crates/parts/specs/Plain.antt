@@ -1,4 +1,4 @@
--- The kind of a reading, and a record without its places.
+-- The kind of a reading, and a record without its spans.
 use Rattle.packet.specs.declared.Packet.{Packet}
 use Rattle.packet.specs.declared.Packet.the-variants.{Data, Synchronization, Discovery, Refused}
 use Rattle.packet.specs.declared.Reading.{Reading}

@@ -3,18 +3,18 @@ pub mod plain;
 
 use packet::DiscoveryRecord;
 use packet::Packet;
-use packet::Place;
 use packet::Reading;
+use packet::Span;
 use refusal::Refusal;
 ghost use mathlib.Core.Path.{_≡_};
 ghost use lib.ListN.{length};
 ghost use Rattle.refusal.specs.Check.{refusal, nowhere};
 ghost use Rattle.packet.specs.Packet.{packetOf};
-ghost use Rattle.parts.specs.Parts.{shownAt, namePlace, valuesPlace, placesOf, copiedOf, listedAt, universesIn, afterCopy};
+ghost use Rattle.parts.specs.Parts.{shownAt, nameSpan, valuesSpan, spansOf, copiedOf, listedAt, universesIn, afterCopy};
 
-pub struct Places {
-    pub name: Place,
-    pub values: Place,
+pub struct Spans {
+    pub name: Span,
+    pub values: Span,
 }
 
 pub enum Copied {
@@ -22,62 +22,62 @@ pub enum Copied {
     Refused(Refusal),
 }
 
-// What stands at a place, or nothing where the place runs past the datagram.
-pub fn shown(datagram: &[u8], place: Place) -> &[u8]
-    ensures { λ r. ⌜ now r ≡ shownAt (now (datagram .entry)) place ⌝ }
+// What stands at a span, or nothing where the span runs past the datagram.
+pub fn shown(datagram: &[u8], span: Span) -> &[u8]
+    ensures { λ r. ⌜ now r ≡ shownAt (now (datagram .entry)) span ⌝ }
 {
-    let start = place.start;
-    let len = place.len;
+    let start = span.start;
+    let len = span.len;
     wire::part(datagram, start, len)
 }
 
-fn name_place(packet: Packet) -> Place
-    ensures { λ r. ⌜ r ≡ namePlace packet ⌝ }
+fn name_span(packet: Packet) -> Span
+    ensures { λ r. ⌜ r ≡ nameSpan packet ⌝ }
 {
     match packet {
         Packet::Data(x) => x.name,
         Packet::Discovery(x) => x.name,
-        Packet::Synchronization(_) => Place { start: 0, len: 0 },
-        Packet::Refused(_) => Place { start: 0, len: 0 },
+        Packet::Synchronization(_) => Span { start: 0, len: 0 },
+        Packet::Refused(_) => Span { start: 0, len: 0 },
     }
 }
 
-fn values_place(packet: Packet) -> Place
-    ensures { λ r. ⌜ r ≡ valuesPlace packet ⌝ }
+fn values_span(packet: Packet) -> Span
+    ensures { λ r. ⌜ r ≡ valuesSpan packet ⌝ }
 {
     match packet {
         Packet::Data(x) => x.values,
-        Packet::Discovery(_) => Place { start: 0, len: 0 },
-        Packet::Synchronization(_) => Place { start: 0, len: 0 },
-        Packet::Refused(_) => Place { start: 0, len: 0 },
+        Packet::Discovery(_) => Span { start: 0, len: 0 },
+        Packet::Synchronization(_) => Span { start: 0, len: 0 },
+        Packet::Refused(_) => Span { start: 0, len: 0 },
     }
 }
 
-// Reads a datagram, whatever it is, and gives the places that were found.
-pub fn places_in(datagram: &[u8]) -> Places
-    ensures { λ r. ⌜ r ≡ placesOf (packetOf (now (datagram .entry))) ⌝ }
+// Reads a datagram, whatever it is, and gives the spans that were found.
+pub fn spans_in(datagram: &[u8]) -> Spans
+    ensures { λ r. ⌜ r ≡ spansOf (packetOf (now (datagram .entry))) ⌝ }
 {
     let packet = packet::parse_packet(datagram);
-    Places {
-        name: name_place(packet),
-        values: values_place(packet),
+    Spans {
+        name: name_span(packet),
+        values: values_span(packet),
     }
 }
 
 // The name, as the part of the datagram that it occupies; empty where there is none.
 pub fn name(datagram: &[u8], reading: Reading) -> &[u8]
-    ensures { λ r. ⌜ now r ≡ shownAt (now (datagram .entry)) (namePlace (reading .packet)) ⌝ }
+    ensures { λ r. ⌜ now r ≡ shownAt (now (datagram .entry)) (nameSpan (reading .packet)) ⌝ }
 {
     let packet = reading.packet;
-    shown(datagram, name_place(packet))
+    shown(datagram, name_span(packet))
 }
 
 // The values, likewise.
 pub fn values(datagram: &[u8], reading: Reading) -> &[u8]
-    ensures { λ r. ⌜ now r ≡ shownAt (now (datagram .entry)) (valuesPlace (reading .packet)) ⌝ }
+    ensures { λ r. ⌜ now r ≡ shownAt (now (datagram .entry)) (valuesSpan (reading .packet)) ⌝ }
 {
     let packet = reading.packet;
-    shown(datagram, values_place(packet))
+    shown(datagram, values_span(packet))
 }
 
 fn refuse_copy() -> Copied
@@ -90,12 +90,12 @@ fn copy_listed(datagram: &[u8], x: DiscoveryRecord, out: &mut [u16]) -> Copied
     ensures answer { λ r. ⌜ r ≡ copiedOf (Packet.Discovery x) (length (now (out .entry))) ⌝ }
     ensures filled { λ r. ⌜ now (out .exit) ≡ afterCopy r (listedAt (now (datagram .entry)) (x .universes)) (now (out .entry)) ⌝ }
 {
-    let place = x.universes;
-    let count = place.len / 2;
+    let span = x.universes;
+    let count = span.len / 2;
     if out.len() < count {
         return refuse_copy();
     }
-    discovery::copy_universes(shown(datagram, place), out);
+    discovery::copy_universes(shown(datagram, span), out);
     Copied::Universes { count }
 }
 

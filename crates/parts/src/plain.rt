@@ -1,7 +1,7 @@
 // What a reading says beside its parts: of what kind the packet is, and its plain fields.
 use discovery::DiscoveryFields;
 use extended::synchronization::SynchronizationFields;
-use framing::data::DataFields;
+use framing::DataFields;
 use packet::Packet;
 use packet::Reading;
 use refusal::Refusal;
@@ -22,7 +22,7 @@ pub enum Fields {
     Refused(Refusal),
 }
 
-// A record without its places.
+// A record without its spans.
 pub struct Plain {
     pub cid: [u8; 16],
     pub fields: Fields,

@@ -2,7 +2,7 @@
 use Prim.Native.Nat.{ℕ, _+_, _*_, _/_, _%_}
 use mathlib.Core.List.{List, [], _∷_}
 use lib.ListN.{length}
-use Rattle.wire.specs.Fields.{byteAt, u16At, u32At, be16}
+use Rattle.wire.specs.Fields.{byteAt, u16At, u32At, be16, be32, join}
 use Rattle.refusal.specs.Check.{Check, check, refusal, _≤?_, _=?_, reading}
 use Rattle.pdu.specs.declared.PduInfo.{PduInfo}
 use Rattle.pdu.specs.declared.PduInfo.the-variants.{Info, Refused}
@@ -40,3 +40,7 @@ flagsField n = 0x7000 + n % 0x1000
 
 abbrev pub flagsAndLength : ℕ → List ℕ
 flagsAndLength n = be16 (flagsField n)
+
+-- the start of a layer as it is written: flags and length, a vector of four bytes
+abbrev pub layerHead : ℕ → ℕ → List ℕ
+layerHead n vector = join (flagsAndLength n ∷ be32 vector ∷ [])

@@ -1,9 +1,18 @@
-// What every layer starts with: four bits of flags, twelve of length, then the layer's vector.
+// What every layer starts with, four bits of flags, twelve of length, then the layer's vector; and the edition of the
+// standard by which layers are read.
 use refusal::Refusal;
 use wire::constants::E131_PDU_FLAGS;
 use wire::constants::E131_PDU_LENGTH_FLAGS_LENGTH;
 ghost use mathlib.Core.Path.{_≡_};
-ghost use Rattle.pdu.specs.Head.{sizeOf, vectorOf, infoOf, flagsField};
+ghost use lib.Seq.{sets};
+ghost use Rattle.pdu.specs.Head.{sizeOf, vectorOf, infoOf, flagsField, layerHead};
+
+// What the editions differ in: 2009 knows data packets only, no synchronization address and no option to
+// force synchronization.
+pub enum Edition {
+    E2018,
+    E2009,
+}
 
 pub enum VectorLength {
     One,
@@ -55,4 +64,20 @@ pub fn flags_and_length(length: usize) -> u16
     ensures { λ r. ⌜ r ≡ flagsField length ⌝ }
 {
     E131_PDU_FLAGS as u16 * 0x100 + (length % 0x1000) as u16
+}
+
+// Writes the start of a layer with a vector of four bytes.
+pub fn put_head(buf: &mut [u8], at: usize, length: usize, vector: u32)
+    ensures { λ _. ⌜ now (buf .exit) ≡ sets (now (buf .entry)) at (layerHead length vector) ⌝ }
+{
+    let flags = flags_and_length(length);
+    let head = [
+        (flags / 0x100 % 0x100) as u8,
+        (flags % 0x100) as u8,
+        (vector / 0x1_0000 / 0x100 % 0x100) as u8,
+        (vector / 0x1_0000 % 0x100) as u8,
+        (vector % 0x1_0000 / 0x100 % 0x100) as u8,
+        (vector % 0x1_0000 % 0x100) as u8,
+    ];
+    wire::copy(buf, at, &head);
 }

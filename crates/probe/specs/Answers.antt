@@ -5,12 +5,12 @@ use Rattle.wire.specs.Fields.{join}
 use Rattle.packet.specs.declared.DataRecord.{DataRecord}
 use Rattle.packet.specs.declared.SynchronizationRecord.{SynchronizationRecord}
 use Rattle.packet.specs.declared.Reading.{Reading}
-use Rattle.parts.specs.Parts.{shownAt, namePlace, valuesPlace}
+use Rattle.parts.specs.Parts.{shownAt, nameSpan, valuesSpan}
 use Rattle.universe.specs.declared.Ipv4Address.{Ipv4Address}
 use Rattle.universe.specs.declared.Multicast.{Multicast}
 use Rattle.universe.specs.declared.Multicast.the-variants.{Address, Refused}
 use Rattle.text.specs.Digits.{ascii, decimal, hex}
-use Rattle.fields.specs.Texts.{dataFieldsText, synchronizationText}
+use Rattle.field_text.specs.Texts.{dataFieldsText, synchronizationText}
 use Rattle.line.specs.Lines.{refusedLine}
 
 -- `N data cid C name H prio P sync A seq S flags F univ U values V`
@@ -21,10 +21,10 @@ dataAnswer n d r x =
     ∷ ascii " data cid "
     ∷ hex (r .cid)
     ∷ ascii " name "
-    ∷ hex (shownAt d (namePlace (r .packet)))
+    ∷ hex (shownAt d (nameSpan (r .packet)))
     ∷ dataFieldsText (x .fields)
     ∷ ascii " values "
-    ∷ hex (shownAt d (valuesPlace (r .packet)))
+    ∷ hex (shownAt d (valuesSpan (r .packet)))
     ∷ ascii "\n"
     ∷ [])
 

@@ -4,8 +4,11 @@ mod address;
 mod read;
 mod write;
 
-use entries::Next;
-use entries::State;
+use capture::LONGEST_ENTRY;
+use capture_input::Next;
+use turns::BLOCK;
+use turns::MOST_ENTRIES;
+use turns::State;
 ghost use Prim.Native.Nat.{_<_};
 
 // The requests.
@@ -19,12 +22,13 @@ const WRITE_DISCOVERY: u8 = 3;
 
 const ADDRESS: u8 = 4;
 
-// A count that no input reaches.
-const MOST_ENTRIES: u64 = 0xffff_ffff_ffff_ffff;
+// Words that are told as they are, for whoever reads the answers.
+const WORDS: u8 = 5;
 
-const LONGEST_ENTRY: usize = 8192;
-
-const BLOCK: usize = 65536;
+fn put_words(out: &mut [u8], at: usize, words: &[u8]) -> usize {
+    let next = text::put(out, at, words);
+    text::put(out, next, b"\n")
+}
 
 fn put_malformed(out: &mut [u8], at: usize, n: u64) -> usize {
     let next = text::put_decimal(out, at, n);
@@ -63,6 +67,7 @@ fn put_answer(out: &mut [u8], at: usize, n: u64, request: &[u8]) -> usize {
             }
             address::put_address(out, at, n, wire::u16_at(asked, 0))
         }
+        WORDS => put_words(out, at, asked),
         _ => put_malformed(out, at, n),
     }
 }
@@ -71,17 +76,15 @@ fn put_answer(out: &mut [u8], at: usize, n: u64, request: &[u8]) -> usize {
 fn turn(block: &mut [u8], entry: &mut [u8], out: &mut [u8], state: State, n: u64) -> State
     requires { ⌜ n < 0xffff_ffff_ffff_ffff ⌝ }
 {
-    let unread = state.unread;
-    let at = state.at;
-    let step = entries::next_entry(block, entry, unread, state.heard);
-    let next = step.next;
+    let found = turns::take(block, entry, state);
+    let next = found.next;
+    let taken = found.state;
     match next {
         Next::Entry { len } => {
-            let end = put_answer(out, at, n + 1, wire::part(entry, 0, len));
-            entries::go_on(out, end, step.unread, step.heard, state.wrote)
+            let end = put_answer(out, taken.at, n + 1, wire::part(entry, 0, len));
+            turns::go_on(out, end, taken)
         }
-        Next::Stop(ending) => entries::finish(out, at, ending, n, step.heard, state.wrote),
-        Next::Failed => entries::give_up(out, at, step.heard, state.wrote),
+        _ => turns::finish(out, taken.at, next, n, taken),
     }
 }
 
@@ -89,7 +92,7 @@ fn main() {
     let mut block = [0; BLOCK];
     let mut entry = [0; LONGEST_ENTRY];
     let mut out = [0; BLOCK];
-    let mut state = entries::begin();
+    let mut state = turns::begin();
     let mut n = 0;
     while state.going && n < MOST_ENTRIES {
         state = turn(&mut block, &mut entry, &mut out, state, n);

@@ -39,9 +39,9 @@ fn put_data(
 {
     let cid = reading.cid;
     let fields = x.fields;
-    let next = fields::put_named(out, at, n, b" data cid ", &cid);
+    let next = field_text::put_named(out, at, n, b" data cid ", &cid);
     let next = put_bytes(out, next, b" name ", parts::name(datagram, reading));
-    let next = fields::put_data_fields(out, next, fields);
+    let next = field_text::put_data_fields(out, next, fields);
     let next = put_bytes(out, next, b" values ", parts::values(datagram, reading));
     text::put(out, next, b"\n")
 }
@@ -88,9 +88,9 @@ fn put_discovery(
 ) -> usize {
     let cid = reading.cid;
     let fields = x.fields;
-    let next = fields::put_named(out, at, n, b" disc cid ", &cid);
+    let next = field_text::put_named(out, at, n, b" disc cid ", &cid);
     let next = put_bytes(out, next, b" name ", parts::name(datagram, reading));
-    let next = fields::put_page(out, next, fields);
+    let next = field_text::put_page(out, next, fields);
     let next = put_universes(out, next, datagram);
     text::put(out, next, b"\n")
 }
@@ -107,8 +107,8 @@ fn put_synchronization(
 {
     let cid = reading.cid;
     let fields = x.fields;
-    let next = fields::put_named(out, at, n, b" sync cid ", &cid);
-    let next = fields::put_synchronization_fields(out, next, fields);
+    let next = field_text::put_named(out, at, n, b" sync cid ", &cid);
+    let next = field_text::put_synchronization_fields(out, next, fields);
     text::put(out, next, b"\n")
 }
 

@@ -1,7 +1,7 @@
 // A packet that is written: how long it is, and the whole buffer; or the refusal, and whether the buffer was kept.
 use discovery::DiscoveryFields;
 use extended::synchronization::SynchronizationFields;
-use framing::data::DataFields;
+use framing::DataFields;
 use pack::Packed;
 ghost use Prim.Native.Nat.{_<_};
 
@@ -85,7 +85,7 @@ fn put_packed(out: &mut [u8], at: usize, n: u64, packed: Packed, buf: &[u8]) -> 
             text::put(out, next, b"\n")
         }
         Packed::Refused(r) => {
-            let next = fields::put_refusal(out, next, r);
+            let next = field_text::put_refusal(out, next, r);
             if is_kept(buf) {
                 return text::put(out, next, b" kept\n");
             }

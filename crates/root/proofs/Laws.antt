@@ -8,7 +8,7 @@ use Rattle.refusal.specs.Check.{root}
 use Rattle.refusal.proofs.Laws.{All, found, all-front, all-back}
 use Rattle.pdu.specs.Head.{headChecks, lengthOf, vectorOf}
 use Rattle.pdu.specs.declared.VectorLength.the-variants.{Four}
-use Rattle.framing.specs.declared.Edition.{Edition}
+use Rattle.pdu.specs.declared.Edition.{Edition}
 use Rattle.root.specs.Root.{preambleChecks, rootPart, vectorChecks, lengthChecks, cidChecks, bodyChecks, rootChecks, rootOf}
 use Rattle.root.specs.declared.Root.the-variants as layer
 

@@ -6,8 +6,8 @@ use Rattle.wire.specs.Fields.{u16At, u32At}
 use Rattle.refusal.specs.Check.{Check, check, refusal, preamble, root, _≤?_, _=?_, _and_, _or_, reading}
 use Rattle.pdu.specs.Head.{headChecks, lengthOf, vectorOf}
 use Rattle.pdu.specs.declared.VectorLength.the-variants.{Four}
-use Rattle.framing.specs.declared.Edition.{Edition}
-use Rattle.framing.specs.declared.Edition.the-variants.{E2018, E2009}
+use Rattle.pdu.specs.declared.Edition.{Edition}
+use Rattle.pdu.specs.declared.Edition.the-variants.{E2018, E2009}
 use Rattle.root.specs.declared.Root.{Root}
 use Rattle.root.specs.declared.Root.the-variants.{Layer, Refused}
 

@@ -1,5 +1,5 @@
 // The preamble and the root layer, in both editions.
-use framing::Edition;
+use pdu::Edition;
 use pdu::PduInfo;
 use pdu::VectorLength;
 use refusal::Checked;
@@ -8,14 +8,11 @@ use wire::constants::E131_POSTAMBLE_SIZE;
 use wire::constants::E131_PREAMBLE_SIZE;
 use wire::constants::VECTOR_ROOT_E131_DATA;
 use wire::constants::VECTOR_ROOT_E131_EXTENDED;
+use wire::layout::PREAMBLE_LENGTH;
+use wire::layout::ROOT_LENGTH;
 ghost use mathlib.Core.Path.{_≡_};
 ghost use Rattle.refusal.specs.Check.{refusal, checkedOf, preamble as preamble·place};
 ghost use Rattle.root.specs.Root.{preambleChecks, vectorChecks, bodyOf, layerOf, rootOf};
-
-// Where the root layer starts in a datagram, and where its own fields end, from its first byte.
-pub const ROOT_LAYER_INDEX: usize = 16;
-
-const CID_END_INDEX: usize = 22;
 
 // "ASC-E1.17" and three zeros, four bytes at a time.
 const ACN_PACKET_IDENTIFIER_START: u32 = 0x4153_432d;
@@ -39,7 +36,7 @@ fn refuse_preamble(number: u8) -> Checked
 fn check_preamble(datagram: &[u8]) -> Checked
     ensures { λ r. ⌜ r ≡ checkedOf (preambleChecks (now (datagram .entry))) ⌝ }
 {
-    if datagram.len() < ROOT_LAYER_INDEX {
+    if datagram.len() < PREAMBLE_LENGTH {
         return refuse_preamble(refusal::INSUFFICIENT_DATA);
     }
     if wire::u16_at(datagram, 0) != E131_PREAMBLE_SIZE {
@@ -90,7 +87,7 @@ fn parse_body(p: &[u8], edition: Edition, length: u16, vector: u32) -> Root
     match check_vector(vector, edition) {
         Checked::Refused(r) => Root::Refused(r),
         Checked::Passed => {
-            if end < CID_END_INDEX {
+            if end < ROOT_LENGTH {
                 return Root::Refused(Refusal::new(refusal::MISSING_FIELD, refusal::ROOT, 0));
             }
             Root::Layer { vector, end }
@@ -112,6 +109,6 @@ pub fn parse(datagram: &[u8], edition: Edition) -> Root
 {
     match check_preamble(datagram) {
         Checked::Refused(r) => Root::Refused(r),
-        Checked::Passed => parse_layer(&datagram[ROOT_LAYER_INDEX..], edition),
+        Checked::Passed => parse_layer(&datagram[PREAMBLE_LENGTH..], edition),
     }
 }

@@ -1,7 +1,7 @@
 -- Texts that are put one after the other. Assumes nothing.
 use Prim.Native.Nat.{ℕ, _+_, _≤_, min}
 use mathlib.Core.Path.{_≡_, sym, ap, _∙_}
-use mathlib.Core.List.{List, _++_}
+use mathlib.Core.List.{List, [], _++_, append-nil}
 use native.Mathlib.Omega.{arith}
 use lib.ListN.{length, length-append}
 use lib.Seq.{sets, length-sets}
@@ -30,6 +30,10 @@ put-then {l} {m} {n} {vs} {ws} {i} {j} {k} p q =
           ∙ sym (sets-append vs ws l i);
       place = omega (arith, p .place, q .place, same, length-append vs ws);
     }
+
+-- the last segment of a text
+pub put-last : {l m vs : List ℕ} {i j : ℕ} → Put l m i j vs → Put l m i j (vs ++ [])
+put-last {vs = vs} p = rw (append-nil vs) p
 
 -- the same text, said in another way
 pub put-as : {l m vs ws : List ℕ} {i j : ℕ} → Put l m i j vs → ws ≡ vs → Put l m i j ws

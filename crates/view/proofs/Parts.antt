@@ -1,4 +1,4 @@
--- The walk of every function `f(v: Viewer) -> &[u8] { parts::shown(v.datagram, v.PLACE) }`: f shows what stands at that place of its viewer's datagram.
+-- The walk of every function `f(v: Viewer) -> &[u8] { parts::shown(v.datagram, v.SPAN) }`: f shows what stands at that span of its viewer's datagram.
 -- Assumes nothing.
 use mathlib.Core.Path.{_≡_, refl, subst}
 use Prim.Native.Nat.{ℕ}
@@ -37,8 +37,8 @@ use denote.Triple.Entry.{onEntry}
 use denote.Triple.Spec.{Meets, tripleOf}
 use denote.Triple.Walked.{says, Stays, stay-none, walkOf, goes-none, ends-at, walked, walk-meets}
 use denote.Triple.Clauses.{Clauses, ensured, lasts, closing}
-use Rattle.packet.proofs.Place as place-type
-use Rattle.packet.proofs.Place.Laws as place-laws
+use Rattle.packet.proofs.Span as span-type
+use Rattle.packet.proofs.Span.Laws as span-laws
 use Rattle.parts.specs.Parts.{shownAt}
 use Rattle.parts.proofs.shown as shown
 use Rattle.view.specs.declared.Viewer.{Viewer}
@@ -50,13 +50,13 @@ module _ {M : Type 1} (𝓤 : URA M) (H : Heap 𝓤) (A : Atoms 𝓤) (mem : Mem
   abbrev pub ShownAt : Contract 𝓤
   ShownAt = tripleOf 𝓤 H A shown.signature (shown.spec 𝓤 H A mem run)
 
--- f's MIR: _2 and _3 are the viewer's datagram and the place
+-- f's MIR: _2 and _3 are the viewer's datagram and the span
 abbrev pub code-of : ℕ → Name → Fn
 code-of k g = record {
   lifetimes = 1;
   outlives = [];
   params = 1;
-  locals = local (sliceTy (tyRef (named 0) imm (tyInt w8))) valueLocal ∷ local (viewer-laws.mir (named 0)) valueLocal ∷ local (sliceTy (tyRef erased imm (tyInt w8))) valueLocal ∷ local place-laws.mir valueLocal ∷ [];
+  locals = local (sliceTy (tyRef (named 0) imm (tyInt w8))) valueLocal ∷ local (viewer-laws.mir (named 0)) valueLocal ∷ local (sliceTy (tyRef erased imm (tyInt w8))) valueLocal ∷ local span-laws.mir valueLocal ∷ [];
   body = seq (assign (place 2 []) (rvOpd (copy (place 1 (field 0 ∷ []))))) (seq (assign (place 3 []) (rvOpd (copy (place 1 (field k ∷ []))))) (seq (call g (copy (place 2 []) ∷ copy (place 3 []) ∷ []) (place 0 [])) return));
 }
 
@@ -67,7 +67,7 @@ module _ {M : Type 1} (𝓤 : URA M) (H : Heap 𝓤) (A : Atoms 𝓤) (W : Given
   abbrev κs : Lfts 1
   κs = (κ, tt)
 
-  -- the machine values of the viewer and of the place
+  -- the machine values of the viewer and of the span
   abbrev whole-val : Val
   whole-val = vstruct (field-vals v)
 
@@ -96,15 +96,15 @@ module _ {M : Type 1} (𝓤 : URA M) (H : Heap 𝓤) (A : Atoms 𝓤) (W : Given
   abbrev Said : RefT (List ℕ) → SProp 𝓤
   Said r = ensured 𝓤 H A shown.ended (shown.clauses 𝓤 H A mem run) κs (v .datagram, (K .of-viewer v, tt)) tt r
 
-  -- the viewer can be copied: one copy, taken apart, has the datagram that `shown` asks; the other is kept for the exit. A place is plain data, and owned for nothing
-  asks : Is place-type.the-row (K .of-viewer v) (kept-val ∷ []) → ent 𝓤 Entered (sep 𝓤 Asked (sem 𝓤 H A Own))
+  -- the viewer can be copied: one copy, taken apart, has the datagram that `shown` asks; the other is kept for the exit. A span is plain data, and owned for nothing
+  asks : Is span-type.the-row (K .of-viewer v) (kept-val ∷ []) → ent 𝓤 Entered (sep 𝓤 Asked (sem 𝓤 H A Own))
   asks placed =
       qed W ((‵ (flft κ q) ⊛ ‵ ftrue) ∷ ‵ (owns (Viewers κs ∷ []) (v, tt) (whole-val ∷ [], tt)) ∷ []) ∵
       move ! (1 ∷ []) $ fsplit ! $ move ! (1 ∷ []) $ drop ! $
       use1 W (‵ Own ⊛ ‵ Own) (LL.copy (declared κs) (viewer-laws.the-copy (namedLft 1 0 tt κs)) 𝓤 H A W .twice v (whole-val ∷ [])) $ split ! $
       use1 W (given (whole-val ∷ [] ≡ whole-val ∷ []) (‵ (all-own (declared κs .parts) (laws κs) (v .datagram, (v .name, (v .values, tt)))))) (own-open 𝓤 H A W (declared κs) (laws κs) (v .datagram, (v .name, (v .values, tt))) whole-val) $ learn ! (λ _.
-      fsplit ! $ move ! (1 ∷ []) $ drop ! $ nothing ! $ owned ! place-type.the-row (Is place-type.the-row) (LL.makes place-type.the-type place-laws.the-plain 𝓤 H A) (K .of-viewer v) (kept-val ∷ []) placed $
-      -- [the place; nothing; the datagram; the viewer; the token]
+      fsplit ! $ move ! (1 ∷ []) $ drop ! $ nothing ! $ owned ! span-type.the-row (Is span-type.the-row) (LL.makes span-type.the-type span-laws.the-plain 𝓤 H A) (K .of-viewer v) (kept-val ∷ []) placed $
+      -- [the span; nothing; the datagram; the viewer; the token]
       fjoin ! $ move ! (1 ∷ 0 ∷ []) $ fjoin ! $ move ! (2 ∷ 0 ∷ []) $ join ! $ nothing ! $ move ! (1 ∷ 0 ∷ []) $ join ! $ frame ! $ done !)
 
   heard-of : (r : RefT (List ℕ)) → ent 𝓤 (Said r) (fact 𝓤 (now r ≡ shown-bytes))
@@ -117,13 +117,13 @@ module _ {M : Type 1} (𝓤 : URA M) (H : Heap 𝓤) (A : Atoms 𝓤) (W : Given
       move ! (1 ∷ []) $ frame ! $ nothing ! $ move ! (2 ∷ 0 ∷ []) $ fjoin ! $ frame ! $ done !
 
   module _ (C : Calls 𝓤 H) (Λ : Loops 𝓤 H) (fm : FmC 𝓤 H (W .laws) C) (known : Triple 𝓤 (C g) (ShownAt 𝓤 H A mem run)) where
-    walk : Holds (hasTy (viewer-laws.mir (named 0)) whole-val) × WT whole-val → Is place-type.the-row (K .of-viewer v) (kept-val ∷ []) → ent 𝓤 Entered (WpFn 𝓤 H C Λ (code-of (K .number) g) (whole-val ∷ []) Left)
+    walk : Holds (hasTy (viewer-laws.mir (named 0)) whole-val) × WT whole-val → Is span-type.the-row (K .of-viewer v) (kept-val ∷ []) → ent 𝓤 Entered (WpFn 𝓤 H C Λ (code-of (K .number) g) (whole-val ∷ []) Left)
     walk viewer-typed placed =
         qed W (raw Entered ∷ []) ∵ enter ! C Λ (code-of (K .number) g) (whole-val ∷ []) _ $
         alloc1 ! (λ l₀. alloc1 ! (λ l₁. alloc1 ! (λ l₂. alloc1 ! (λ l₃. alloc0 ! $ params1 ! $ pass1 ! (init ! 4 refl viewer-typed) $ pass0 ! $
         assigns ! (of-opd ! (load ! (from ! (fld ! refl (stop !))) (look-in ! 4 (sub ! 0 refl (whole !))))) (from ! (stop !)) (init ! 2 refl (tt, viewer-typed .1 .0)) $
         assigns ! (of-opd ! (load ! (from ! (fld ! (K .stands) (stop !))) (look-in ! 4 (sub ! (K .number) (K .stands) (whole !))))) (from ! (stop !))
-        (init ! 0 refl (LL.lawful place-type.the-type place-laws.the-laws 𝓤 H A W .typed (K .of-viewer v) _ placed .0)) $
+        (init ! 0 refl (LL.lawful span-type.the-type span-laws.the-laws 𝓤 H A W .typed (K .of-viewer v) _ placed .0)) $
         move ! (8 ∷ []) $ use1 W (raw Asked ⊛ ‵ Own) (asks placed) $ split ! $
         -- [what `shown` asks; the viewer; _3; …; _2; …; _1; …; room for _0; …]
         calls-at ! fm (ShownAt 𝓤 H A mem run) known to-shown (and-then ! (load ! (from ! (stop !)) (look ! 4 refl)) (and-then ! (load ! (from ! (stop !)) (look ! 2 refl)) (no-more !))) (λ u.

@@ -32,7 +32,7 @@ use denote.Triple.Spec.{Meets, tripleOf}
 use denote.Triple.Walked.{says, Stays, stay-none-slice, walkOf, goes-none-slice, ends-at, walked, walk-meets}
 use denote.Triple.Clauses.{Clauses, ensured, lasts, closing}
 use Rattle.packet.specs.Packet.{packetOf}
-use Rattle.packet.specs.declared.Place.{Place}
+use Rattle.packet.specs.declared.Span.{Span}
 use Rattle.parts.specs.Parts.{shownAt}
 use Rattle.view.specs.declared.Viewer.{Viewer}
 use Rattle.view.proofs.Viewer as viewer
@@ -62,9 +62,9 @@ code-of new g = record {
 abbrev stays : Stays (of-datagram .signature .params) (of-datagram .kept)
 stays = (stay-none-slice (0 ∷ []) tt (plain (λ _. u8)) yes, tt)
 
--- what stands at the viewer's own place is what stands at that place of the datagram
+-- what stands at the viewer's own span is what stands at that span of the datagram
 at-datagram : (K : Kept) (v : Viewer) (d r : RefT (List ℕ)) → Viewed d v → now r ≡ shownAt (now (v .datagram)) (K .of-viewer v) → now r ≡ shownAt (now d) (K .of-packet (packetOf (now d)))
-at-datagram K v d r e s = subst (λ (p : Place). now r ≡ shownAt (now d) p) (K .same d v e) (subst (λ (y : RefT (List ℕ)). now r ≡ shownAt (now y) (K .of-viewer v)) (e .0) s)
+at-datagram K v d r e s = subst (λ (p : Span). now r ≡ shownAt (now d) p) (K .same d v e) (subst (λ (y : RefT (List ℕ)). now r ≡ shownAt (now y) (K .of-viewer v)) (e .0) s)
 
 module _ (K : Kept) {M : Type 1} (𝓤 : URA M) (H : Heap 𝓤) (A : Atoms 𝓤) (W : Given 𝓤 H A) (new g : Name) (κ : Lft) (q : Share) (d : RefT (List ℕ)) where
   abbrev κs : Lfts 1

@@ -1,4 +1,4 @@
--- What the walks of this crate share: the viewer's type, the places that it keeps, and the two contracts that show what stands at one of them, of a viewer and of a datagram.
+-- What the walks of this crate share: the viewer's type, the spans that it keeps, and the two contracts that show what stands at one of them, of a viewer and of a datagram.
 -- Assumes nothing.
 use mathlib.Core.Path.{_≡_, refl}
 use Prim.Native.Nat.{ℕ}
@@ -29,10 +29,10 @@ use denote.Triple.Spec.{tripleOf}
 use denote.Triple.Clauses.{Ended, Clauses, closing}
 use Rattle.packet.specs.Packet.{packetOf}
 use Rattle.packet.specs.declared.Packet.{Packet}
-use Rattle.packet.specs.declared.Place.{Place}
-use Rattle.packet.proofs.Place as place
-use Rattle.packet.proofs.Place.Laws as place-laws
-use Rattle.parts.specs.Parts.{shownAt, namePlace, valuesPlace}
+use Rattle.packet.specs.declared.Span.{Span}
+use Rattle.packet.proofs.Span as span
+use Rattle.packet.proofs.Span.Laws as span-laws
+use Rattle.parts.specs.Parts.{shownAt, nameSpan, valuesSpan}
 use Rattle.view.specs.declared.Viewer.{Viewer}
 use Rattle.view.proofs.Viewer as viewer
 use Rattle.view.proofs.Viewer.Laws as viewer-laws
@@ -51,25 +51,25 @@ laws κs = viewer-laws.the-laws (namedLft 1 0 tt κs)
 abbrev pub Bytes : Lfts 1 → RattleType
 Bytes κs = ShrSlice (named 0) (κs .0) u8
 
--- the machine values of a place, and of a viewer's three fields
-abbrev pub place-val : Place → Val
-place-val p = LL.val place.the-type place-laws.the-laws p
+-- the machine values of a span, and of a viewer's three fields
+abbrev pub span-val : Span → Val
+span-val p = LL.val span.the-type span-laws.the-laws p
 
 abbrev pub field-vals : Viewer → Vals
-field-vals v = vcons (sliceVal (v .datagram .ptr) (length (v .datagram .now))) (vcons (place-val (v .name)) (vcons (place-val (v .values)) vnil))
+field-vals v = vcons (sliceVal (v .datagram .ptr) (length (v .datagram .now))) (vcons (span-val (v .name)) (vcons (span-val (v .values)) vnil))
 
--- that a viewer keeps this datagram and the places found in it
+-- that a viewer keeps this datagram and the spans found in it
 abbrev pub Viewed : RefT (List ℕ) → Viewer → Type 0
-Viewed d v = (v .datagram ≡ d) × (v .name ≡ namePlace (packetOf (now d))) × (v .values ≡ valuesPlace (packetOf (now d)))
+Viewed d v = (v .datagram ≡ d) × (v .name ≡ nameSpan (packetOf (now d))) × (v .values ≡ valuesSpan (packetOf (now d)))
 
--- a place that a viewer keeps: its field's number and offset, the place itself, and which place of a packet it is
+-- a span that a viewer keeps: its field's number and offset, the span itself, and which span of a packet it is
 pub record Kept : Type 0 where
   pub number : ℕ
   pub offset : ℕ
-  pub stands : fieldOf (viewer-laws.mir (named 0)) number ≡ some (place-laws.mir, offset)
-  pub of-viewer : Viewer → Place
-  pub is : (κs : Lfts 1) (v : Viewer) → Is (Viewers κs) v (vstruct (field-vals v) ∷ []) → Is place.the-row (of-viewer v) (getV (field-vals v) number ∷ [])
-  pub of-packet : Packet → Place
+  pub stands : fieldOf (viewer-laws.mir (named 0)) number ≡ some (span-laws.mir, offset)
+  pub of-viewer : Viewer → Span
+  pub is : (κs : Lfts 1) (v : Viewer) → Is (Viewers κs) v (vstruct (field-vals v) ∷ []) → Is span.the-row (of-viewer v) (getV (field-vals v) number ∷ [])
+  pub of-packet : Packet → Span
   pub same : (d : RefT (List ℕ)) (v : Viewer) → Viewed d v → of-viewer v ≡ of-packet (packetOf (now d))
 
 abbrev pub the-name : Kept
@@ -79,7 +79,7 @@ the-name = record {
   stands = refl;
   of-viewer = λ v. v .name;
   is = λ κs v h. LL.owed (declared κs) (laws κs) v _ h .1 .0;
-  of-packet = namePlace;
+  of-packet = nameSpan;
   same = λ d v e. e .1;
 }
 
@@ -90,7 +90,7 @@ the-values = record {
   stands = refl;
   of-viewer = λ v. v .values;
   is = λ κs v h. LL.owed (declared κs) (laws κs) v _ h .1 .1 .0;
-  of-packet = valuesPlace;
+  of-packet = valuesSpan;
   same = λ d v e. e .2;
 }
 

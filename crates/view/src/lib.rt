@@ -1,25 +1,25 @@
-// A viewer keeps the lent datagram beside the places found in it, so that nobody shows the parts of one datagram by
-// the places of another. Its calls are thin: `parts` finds the places and says what is shown.
-use packet::Place;
+// A viewer keeps the lent datagram beside the spans found in it, so that nobody shows the parts of one datagram by
+// the spans of another. Its calls are thin: `parts` finds the spans and says what is shown.
+use packet::Span;
 ghost use mathlib.Core.Path.{_≡_};
 ghost use Rattle.packet.specs.Packet.{packetOf};
-ghost use Rattle.parts.specs.Parts.{shownAt, namePlace, valuesPlace};
+ghost use Rattle.parts.specs.Parts.{shownAt, nameSpan, valuesSpan};
 
 pub struct Viewer<'a> {
     datagram: &'a [u8],
-    name: Place,
-    values: Place,
+    name: Span,
+    values: Span,
 }
 
-// Reads a datagram, whatever it is, and keeps it with the places found.
+// Reads a datagram, whatever it is, and keeps it with the spans found.
 pub fn view<'a>(datagram: &'a [u8]) -> Viewer<'a>
-    ensures { λ r. ⌜ (r .datagram ≡ datagram .entry) × (r .name ≡ namePlace (packetOf (now (datagram .entry)))) × (r .values ≡ valuesPlace (packetOf (now (datagram .entry)))) ⌝ }
+    ensures { λ r. ⌜ (r .datagram ≡ datagram .entry) × (r .name ≡ nameSpan (packetOf (now (datagram .entry)))) × (r .values ≡ valuesSpan (packetOf (now (datagram .entry)))) ⌝ }
 {
-    let places = parts::places_in(datagram);
+    let spans = parts::spans_in(datagram);
     Viewer {
         datagram,
-        name: places.name,
-        values: places.values,
+        name: spans.name,
+        values: spans.values,
     }
 }
 
@@ -39,13 +39,13 @@ pub fn values<'a>(viewer: Viewer<'a>) -> &'a [u8]
 
 // What a datagram's viewer shows. A caller of these holds no viewer, so its own proof needs no walk.
 pub fn viewed_name(datagram: &[u8]) -> &[u8]
-    ensures { λ r. ⌜ now r ≡ shownAt (now (datagram .entry)) (namePlace (packetOf (now (datagram .entry)))) ⌝ }
+    ensures { λ r. ⌜ now r ≡ shownAt (now (datagram .entry)) (nameSpan (packetOf (now (datagram .entry)))) ⌝ }
 {
     name(view(datagram))
 }
 
 pub fn viewed_values(datagram: &[u8]) -> &[u8]
-    ensures { λ r. ⌜ now r ≡ shownAt (now (datagram .entry)) (valuesPlace (packetOf (now (datagram .entry)))) ⌝ }
+    ensures { λ r. ⌜ now r ≡ shownAt (now (datagram .entry)) (valuesSpan (packetOf (now (datagram .entry)))) ⌝ }
 {
     values(view(datagram))
 }

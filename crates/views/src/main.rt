@@ -2,11 +2,9 @@
 // one with the name and the values as a viewer shows them.
 use discovery::DiscoveryFields;
 use extended::synchronization::SynchronizationFields;
-use framing::data::DataFields;
+use framing::DataFields;
 use parts::plain::Fields;
 use parts::plain::Kind;
-
-const STANDARD_OUTPUT: i32 = 1;
 
 const LINE_ROOM: usize = 4096;
 
@@ -28,10 +26,10 @@ fn put_kind(out: &mut [u8], at: usize, kind: Kind) -> usize {
 
 fn put_fields(out: &mut [u8], at: usize, fields: Fields) -> usize {
     match fields {
-        Fields::Data(x) => fields::put_data_fields(out, at, x),
-        Fields::Synchronization(x) => fields::put_synchronization_fields(out, at, x),
-        Fields::Discovery(x) => fields::put_page(out, at, x),
-        Fields::Refused(r) => fields::put_refusal(out, at, r),
+        Fields::Data(x) => field_text::put_data_fields(out, at, x),
+        Fields::Synchronization(x) => field_text::put_synchronization_fields(out, at, x),
+        Fields::Discovery(x) => field_text::put_page(out, at, x),
+        Fields::Refused(r) => field_text::put_refusal(out, at, r),
     }
 }
 
@@ -52,7 +50,7 @@ fn show(words: &[u8], datagram: &[u8]) {
     let at = text::put(&mut out, at, b" values ");
     let at = text::put_hex(&mut out, at, view::viewed_values(datagram));
     let at = text::put(&mut out, at, b"\n");
-    io::write_all(STANDARD_OUTPUT, wire::part(&out, 0, at));
+    io::write_all(libc::STDOUT_FILENO, wire::part(&out, 0, at));
 }
 
 fn data_cases() {

@@ -5,7 +5,7 @@ use mathlib.Core.List.{List, [], _∷_, _++_, append-nil}
 use native.Mathlib.Nat.{add-zero, zero-add, add-suc, suc-add}
 use native.Mathlib.Numerals.{add-one}
 use native.Mathlib.Omega.{arith}
-use lib.ListN.{length, take, drop, getD, set, replicate, length-drop, length-replicate, replicate-append-replicate, length-set, drop-of-length-le, List·getD-eq-default}
+use lib.ListN.{length, take, drop, getD, set, replicate, length-drop, length-set, drop-of-length-le, List·getD-eq-default}
 use lib.Seq.{sets, sets-eq, set-out, take-suc, take-all, length-take-le, drop-cons, getD-drop}
 use Rattle.wire.specs.Fields.{byteAt, u16At, u32At}
 
@@ -41,18 +41,19 @@ pub sets-append : (vs ws l : List ℕ) (i : ℕ) → sets l i (vs ++ ws) ≡ set
 sets-append [] ws l i = rw add-zero
 sets-append (v ∷ vs) ws l i = sets-append vs ws (set l i v) (suc i) ∙ rw (add-suc, suc-add)
 
+-- a segment of n bytes, and another where it ended
+pub sets-then : (vs ws l : List ℕ) (at n : ℕ) → length vs ≡ n → sets l at (vs ++ ws) ≡ sets (sets l at vs) (at + n) ws
+sets-then vs ws l at n e = sets-append vs ws l at ∙ rw e
+
 pub sets-past : (vs l : List ℕ) (i : ℕ) → length l ≤ i → sets l i vs ≡ l
 sets-past [] l i h = refl
 sets-past (v ∷ vs) l i h = rw (set-out l i v h) (sets-past vs l (suc i) (omega arith))
 
--- One byte more of a copy, and of zeros.
+-- One byte more of a copy.
 pub sets-more : (s l : List ℕ) (i j : ℕ) → j < length s → sets l i (take (j + 1) s) ≡ set (sets l i (take j s)) (i + j) (getD s j 0)
 sets-more s l i j h =
     let k : j ≤ length s = omega arith in
     rw (add-one, take-suc s j 0, sets-append, length-take-le)
-
-pub sets-zero-more : (l : List ℕ) (i j : ℕ) → sets l i (replicate (j + 1) 0) ≡ set (sets l i (replicate j 0)) (i + j) 0
-sets-zero-more l i j = rw (← replicate-append-replicate {A = ℕ} j 1 0, sets-append (replicate j 0) (0 ∷ []) l i, length-replicate)
 
 -- n bytes at the front are the front, and what comes after them is as it was.
 pub sets-front : (vs l : List ℕ) (n : ℕ) → length vs ≡ n → n ≤ length l → sets l 0 vs ≡ vs ++ drop n l

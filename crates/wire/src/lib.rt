@@ -1,10 +1,11 @@
 // Big-endian numbers and runs of bytes in a lent slice. Every call takes every place: a byte past the end
 // reads as zero, and is not written.
 pub mod constants;
+pub mod layout;
 
 ghost use mathlib.Core.Path.{_≡_};
 ghost use Prim.Native.Nat.{_≤_, min};
-ghost use lib.ListN.{length, replicate};
+ghost use lib.ListN.{length};
 ghost use lib.Seq.{sets};
 ghost use Rattle.wire.specs.Fields.{byteAt, u16At, u32At, partOf, be16, be32};
 
@@ -75,27 +76,6 @@ pub fn copy(buf: &mut [u8], at: usize, src: &[u8])
     }
     let n = least(src.len(), buf.len() - at);
     copy_run(&mut buf[at..], &src[0..n]);
-}
-
-fn zero_run(buf: &mut [u8], n: usize)
-    requires { ⌜ n ≤ length (now buf) ⌝ }
-    ensures { λ _. ⌜ now (buf .exit) ≡ sets (now (buf .entry)) 0 (replicate n 0) ⌝ }
-{
-    let mut i = 0;
-    while i < n {
-        buf[i] = 0;
-        i += 1;
-    }
-}
-
-pub fn zeros(buf: &mut [u8], at: usize, n: usize)
-    ensures { λ _. ⌜ now (buf .exit) ≡ sets (now (buf .entry)) at (replicate n 0) ⌝ }
-{
-    if buf.len() < at {
-        return;
-    }
-    let k = least(n, buf.len() - at);
-    zero_run(&mut buf[at..], k);
 }
 
 pub fn put_u16(buf: &mut [u8], at: usize, v: u16)

@@ -1,12 +1,10 @@
 // Packets as the writers put them: a line for each case with the answer, and then the whole buffer, filled with ee before the call.
 use discovery::DiscoveryFields;
 use extended::synchronization::SynchronizationFields;
-use framing::data::DataFields;
+use framing::DataFields;
 use pack::Packed;
 ghost use mathlib.Core.Path.{_≡_};
 ghost use lib.ListN.{length};
-
-const STANDARD_OUTPUT: i32 = 1;
 
 const UNTOUCHED: u8 = 0xee;
 
@@ -30,7 +28,7 @@ fn show(words: &[u8], packed: Packed, buf: &[u8]) {
     let at = text::put(&mut out, at, b"\n");
     let at = text::put_hex(&mut out, at, buf);
     let at = text::put(&mut out, at, b"\n");
-    io::write_all(STANDARD_OUTPUT, wire::part(&out, 0, at));
+    io::write_all(libc::STDOUT_FILENO, wire::part(&out, 0, at));
 }
 
 fn data_into(words: &[u8], buf: &mut [u8], name: &[u8], values: &[u8], fields: DataFields) {

@@ -10,6 +10,10 @@ pub const TYPE_PREFIX: &str = "Ledgerwren";
 /// A field, a parameter or a result: its name and its type in C's words.
 pub type Item = (String, String);
 
+/// What the fingerprint begins with, and what it is multiplied by at each byte.
+const FNV_START: u64 = 0xcbf2_9ce4_8422_2325;
+const FNV_FACTOR: u64 = 0x100_0000_01b3;
+
 /// Under this name a function's result is the last of its items.
 pub const RESULT: &str = "-> result";
 
@@ -32,6 +36,14 @@ impl Interface {
     pub fn add_struct(&mut self, name: &str, fields: Vec<Item>) {
         let before = self.structs.insert(name.to_string(), fields);
         assert!(before.is_none(), "{name} is declared twice");
+    }
+
+    /// A number that is another one for other structs and functions: FNV-1a over their names and types.
+    pub fn fingerprint(&self) -> u64 {
+        let text = format!("{:?}{:?}", self.structs, self.functions);
+        text.bytes().fold(FNV_START, |number, byte| {
+            (number ^ u64::from(byte)).wrapping_mul(FNV_FACTOR)
+        })
     }
 
     /// A line for each constant, struct and function that the two do not have in common.

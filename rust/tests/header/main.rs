@@ -1,5 +1,6 @@
-//! The declarations for C and for Rust are those of the Rattle sources. Nothing in a compiler or a
-//! linker sees to that, so this test reads the three and compares each field and each parameter.
+//! The declarations for C and for Rust are those of the Rattle sources. A linker sees only the names of
+//! the calls, so this test reads the three and compares each field and each parameter. It also sees to
+//! it that those names have another version where the layout is another.
 
 mod c;
 mod interface;
@@ -9,6 +10,10 @@ mod syntax;
 
 use interface::Interface;
 use syntax::Constants;
+
+/// What the names of the calls begin with, which is the layout's version, and that layout's fingerprint.
+const VERSION: &str = "ledgerwren1_";
+const FINGERPRINT: u64 = 0xb2e6_3cff_8166_ea8c;
 
 fn assert_same(declared: &Interface, exported: &Interface) {
     let differences = declared.differences(exported);
@@ -37,6 +42,20 @@ fn the_exports_are_eight_functions_over_fourteen_structs() {
     assert_eq!(exported.functions.len(), 8);
     assert_eq!(exported.structs.len(), 14);
     assert_eq!(exported.constants.len(), 4 + 22 + 7);
+}
+
+#[test]
+fn another_layout_has_another_version() {
+    let exported = rattle::exported(&rattle::sources());
+    for name in exported.functions.keys() {
+        assert!(name.starts_with(VERSION), "{name} has another version");
+    }
+    let found = exported.fingerprint();
+    assert!(
+        found == FINGERPRINT,
+        "a struct or a call has changed: the names of the calls need the next version; \
+         then write that version and {found:#x} in this test"
+    );
 }
 
 /// `INVALID_PRIORITY` as `InvalidPriority`.
@@ -128,7 +147,7 @@ fn another_order_is_seen() {
             "    pub second: u8,\n",
         ),
         (
-            "exports/lib.rt",
+            "ledgerwren/lib.rt",
             "    name: &[u8],\n",
             "    values: &[u8],\n",
         ),
@@ -145,5 +164,6 @@ fn another_order_is_seen() {
         assert!(!rust::declared(rust::boundary())
             .differences(&exported)
             .is_empty());
+        assert_ne!(exported.fingerprint(), FINGERPRINT, "{file}");
     }
 }

@@ -42,7 +42,7 @@ pub fn numbers_and_places(sources: &Sources) -> (Constants, Constants) {
 }
 
 pub fn kinds(sources: &Sources) -> Constants {
-    constants(&sources["flat/lib.rt"])
+    constants(&sources["c_answers/lib.rt"])
 }
 
 /// The header as the sources have it: the exported functions, the structs that they name, and theirs.
@@ -58,7 +58,7 @@ pub fn exported(sources: &Sources) -> Interface {
         let named = named.map(|(name, value)| (format!("LEDGERWREN_{prefix}_{name}"), value));
         interface.constants.extend(named);
     }
-    add_functions(&mut interface, &sources["exports/lib.rt"]);
+    add_functions(&mut interface, &sources["ledgerwren/lib.rt"]);
     add_structs(&mut interface, &all_structs(sources));
     interface
 }

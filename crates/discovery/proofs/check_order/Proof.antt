@@ -58,7 +58,7 @@ returns-3 c = let l = c .before .before .before .before in
     let us = now (l .before .before .before .before .before .before .before .args .universes) in
     let k : l .loop .i < length us = omega arith in
     let f : l .loop .last ≡ getD us (l .loop .i) 0 = omega arith in
-    cc (pair-fails rises us (l .loop .last) (l .loop .i) 0 k f)
+    c .refuse-order .ensures ∙ sym (pair-fails rises us (l .loop .last) (l .loop .i) 0 k f) ∙ l .loop .inv .1
 
 refuse-order-requires-2 : tie.Need-refuse-order-requires-2 Inv-loop μ-loop
 refuse-order-requires-2 c κs = search needs
@@ -67,7 +67,7 @@ returns-4 : tie.Need-returns-4 Inv-loop μ-loop
 returns-4 c = let l = c .before .before .before .before .before in
     let us = now (l .before .before .before .before .before .before .before .args .universes) in
     let k : l .loop .i < length us = omega arith in
-    cc (pair-fails rises us (l .loop .last) (l .loop .i) 1 k (omega arith))
+    c .refuse-order2 .ensures ∙ sym (pair-fails rises us (l .loop .last) (l .loop .i) 1 k (omega arith)) ∙ l .loop .inv .1
 
 add-i-2 : tie.Need-add-i-2 Inv-loop μ-loop
 add-i-2 c = omega arith

@@ -1,11 +1,17 @@
-use mathlib.Core.Path.{sym}
+use Prim.Native.Nat.{ℕ, _+_, _*_}
+use mathlib.Core.List.{List, [], _∷_, _++_}
+use mathlib.Core.Path.{_≡_, sym}
 use native.Mathlib.Omega.{arith}
 use borrow.Author.Needs.{needs}
 use denote.Ref.{now}
 use lib.ListN.{length}
+use lib.Seq.{sets}
+use Rattle.wire.specs.Fields.{be16, be32}
 use Rattle.wire.proofs.Laws.{sets-append, sets-past}
+use Rattle.pdu.specs.Head.{flagsField}
 use Rattle.discovery.specs.Universes.{universeBytes}
 use Rattle.discovery.specs.Layer.{discoveryBytes, discoveryHead}
+use Rattle.discovery.specs.declared.DiscoveryFields.{DiscoveryFields}
 use Rattle.discovery.proofs.pack.Statement.{statement}
 use Rattle.discovery.proofs.pack.Tie as tie
 
@@ -56,11 +62,23 @@ put-universes-requires c κs = search needs
 same-length : tie.Need-same-length
 same-length c = search needs
 
-returns-2 : tie.Need-returns-2
+-- the layer's start, and the list written into what that left
+written : (l headed listed : List ℕ) (at flags : ℕ) (f : DiscoveryFields) (us : List ℕ) →
+    flags ≡ flagsField (8 + 2 * length us) →
+    headed ≡ sets l at (be16 flags ++ (be32 1 ++ (f .page ∷ f .«last_page» ∷ []))) →
+    listed ≡ sets headed (at + 8) (universeBytes us) →
+    listed ≡ sets l at (discoveryBytes f us)
 unfolding discoveryBytes
-returns-2 c = let a = c .before .before .before .before .before .before .before .before .before .before .before .before .before .args in
-    let us = now (a .universes) in
-    cc (sets-append (discoveryHead (a .fields) (length us)) (universeBytes us) (now (a .buf)) (a .at))
+written l headed listed at flags f us p q r = cc (sets-append (discoveryHead f (length us)) (universeBytes us) l at)
+
+returns-2 : tie.Need-returns-2
+returns-2 c =
+    let listed = c .before .before in
+    let headed = listed .before .before .before .before in
+    let flagged = headed .before .before .before in
+    let a = flagged .before .before .before .before .args in
+    written (now (a .buf)) _ _ (a .at) _ (a .fields) (now (a .universes)) (flagged .flags-and-length .ensures) (headed .copy .ensures)
+    (listed .put-universes .ensures)
 
 pub pack-spec : {M : Type 1} → statement M
 pack-spec =

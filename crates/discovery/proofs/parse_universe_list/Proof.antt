@@ -1,10 +1,11 @@
 use Prim.Native.Nat.{_≤_, _<_, _-_, _*_, _+_}
-use mathlib.Core.Path.{_≡_, sym, _∙_}
+use mathlib.Core.Path.{_≡_, sym, ap, _∙_}
 use native.Mathlib.Omega.{arith}
 use borrow.Author.Needs.{needs}
 use denote.Ref.{now}
 use lib.ListN.{length, drop, getD}
-use Rattle.refusal.specs.Check.{checkedOf}
+use Rattle.refusal.specs.Check.{refusal, universeList, checkedOf}
+use Rattle.refusal.specs.declared.Checked.the-variants.{Refused}
 use Rattle.refusal.proofs.Laws.{stop, none-checked}
 use Rattle.discovery.specs.Universes.{universes, pairsFrom, ascends, listChecks}
 use Rattle.discovery.proofs.Laws.{universes-length, universes-at, pairs-none, pairs-first, pair-holds, pair-fails, pairs-end, listed}
@@ -23,7 +24,7 @@ new-requires c κs = search needs
 
 returns : tie.Need-returns Inv-loop μ-loop
 unfolding checkedOf
-returns c = stop 0 _ _ _ (omega arith) (cc)
+returns c = stop 0 _ _ _ (omega arith) (ap Refused (c .new .ensures))
 
 returns-2 : tie.Need-returns-2 Inv-loop μ-loop
 returns-2 c = let a = c .before .before .before .args in
@@ -64,7 +65,7 @@ returns-3 c = let u = c .before .before .universe-at2 .result in
     let k : i < length us = omega (arith, universes-length (a .count) p) in
     let e : getD us i 0 ≡ u = universes-at (a .count) p i (omega arith) ∙ sym (c .before .before .universe-at2 .ensures) in
     let f : getD us i 0 < l .loop .last + 1 = omega arith in
-    cc (pair-fails ascends us (l .loop .last) i 0 k f)
+    ap Refused (c .new2 .ensures ∙ ap (refusal 12 universeList) (sym e)) ∙ sym (pair-fails ascends us (l .loop .last) i 0 k f) ∙ l .loop .inv .2
 
 add-i : tie.Need-add-i Inv-loop μ-loop
 add-i c = omega arith

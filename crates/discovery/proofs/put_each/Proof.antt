@@ -1,10 +1,12 @@
-use Prim.Native.Nat.{_≤_, _-_}
-use mathlib.Core.Path.{_≡_, refl, sym}
+use Prim.Native.Nat.{ℕ, _+_, _-_, _*_, _≤_, _<_}
+use mathlib.Core.List.{List}
+use mathlib.Core.Path.{_≡_, refl, sym, ap, _∙_}
 use native.Mathlib.Omega.{arith}
 use borrow.Author.Needs.{needs}
 use denote.Ref.{now}
-use lib.ListN.{length, take}
+use lib.ListN.{length, take, getD}
 use lib.Seq.{sets, take-all}
+use Rattle.wire.specs.Fields.{be16}
 use Rattle.wire.proofs.Laws.{sets-past}
 use Rattle.discovery.specs.Universes.{universeBytes}
 use Rattle.discovery.proofs.Laws.{bytes-more}
@@ -49,7 +51,15 @@ loop-less c = omega arith
 loop-again : tie.Need-loop-again Inv-loop μ-loop
 loop-again c = let l = c .before .before .before .before .before .before in
     let a = l .before .before .before .before .args in
-    (omega arith, omega arith, cc (bytes-more (now (a .universes)) (now (a .buf)) (a .at) (l .loop .i) (omega arith)))
+    let us = now (a .universes) in
+    let i = l .loop .i in
+    let k : i < length us = omega arith in (
+      omega arith,
+      omega arith,
+      c .before .before .put-u16 .ensures
+          ∙ ap (λ (b : List ℕ). sets b (a .at + 2 * i) (be16 (getD us i 0))) (l .loop .inv .2)
+          ∙ sym (bytes-more us (now (a .buf)) (a .at) i k),
+    )
 
 same-length : tie.Need-same-length Inv-loop μ-loop
 same-length c = omega arith
@@ -57,7 +67,7 @@ same-length c = omega arith
 returns-2 : tie.Need-returns-2 Inv-loop μ-loop
 returns-2 c = let a = c .before .before .before .before .before .args in
     let k : length (now (a .universes)) ≤ c .before .loop .i = omega arith in
-    cc (take-all (c .before .loop .i) (now (a .universes)) k)
+    c .before .loop .inv .2 ∙ ap (λ (us : List ℕ). sets (now (a .buf)) (a .at) (universeBytes us)) (take-all (c .before .loop .i) (now (a .universes)) k)
 
 pub put-each-spec : {M : Type 1} → statement M
 put-each-spec =

@@ -42,8 +42,11 @@ same-length-2 : tie.Need-same-length-2
 same-length-2 c = search needs
 
 returns-3 : tie.Need-returns-3
-returns-3 c = let a = c .before .before .before .before .before .before .before .before .args in
-    lent-rest (universeBytes (now (a .universes))) (now (a .buf)) (a .at) (c .before .before .put-run .ensures)
+returns-3 c =
+    let put = c .before .before in
+    let fits = put .before .before in
+    let a = fits .before .before .before .before .args in
+    lent-rest (universeBytes (now (a .universes))) (now (a .buf)) (a .at) (put .put-run .ensures)
 
 pub put-universes-spec : {M : Type 1} → statement M
 put-universes-spec =

@@ -1,9 +1,14 @@
-use mathlib.Core.Path.{sym}
+use Prim.Native.Nat.{ℕ, _+_}
+use mathlib.Core.List.{List, _∷_, _++_}
+use mathlib.Core.Path.{_≡_, sym}
 use native.Mathlib.Omega.{arith}
 use borrow.Author.Needs.{needs}
 use denote.Ref.{now}
 use lib.ListN.{length}
+use lib.Seq.{sets}
+use Rattle.wire.specs.Fields.{be16}
 use Rattle.wire.proofs.Laws.{sets-append, sets-past}
+use Rattle.pdu.specs.Head.{flagsField}
 use Rattle.dmp.specs.Layer.{dmpBytes, dmpHead}
 use Rattle.dmp.proofs.pack.Statement.{statement}
 use Rattle.dmp.proofs.pack.Tie as tie
@@ -58,11 +63,22 @@ copy-requires-2 c κs = search needs
 same-length : tie.Need-same-length
 same-length c = search needs
 
-returns-2 : tie.Need-returns-2
+-- the layer's start, and the values written into what that left
+written : (l headed copied : List ℕ) (at flags : ℕ) (values : List ℕ) →
+    flags ≡ flagsField (10 + length values) →
+    headed ≡ sets l at (be16 flags ++ (2 ∷ 0xa1 ∷ be16 0 ++ (be16 1 ++ be16 (length values)))) →
+    copied ≡ sets headed (at + 10) values →
+    copied ≡ sets l at (dmpBytes values)
 unfolding dmpBytes
-returns-2 c = let a = c .before .before .before .before .before .before .before .before .before .before .before .before .before .args in
-    let v = now (a .values) in
-    cc (sets-append (dmpHead (length v)) v (now (a .buf)) (a .at))
+written l headed copied at flags values p q r = cc (sets-append (dmpHead (length values)) values l at)
+
+returns-2 : tie.Need-returns-2
+returns-2 c =
+    let copied = c .before .before in
+    let headed = copied .before .before .before .before in
+    let flagged = headed .before .before .before in
+    let a = flagged .before .before .before .before .args in
+    written (now (a .buf)) _ _ (a .at) _ (now (a .values)) (flagged .flags-and-length .ensures) (headed .copy .ensures) (copied .copy2 .ensures)
 
 pub pack-spec : {M : Type 1} → statement M
 pack-spec =

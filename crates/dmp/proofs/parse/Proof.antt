@@ -30,10 +30,16 @@ parse-body-requires : tie.Need-parse-body-requires
 parse-body-requires c κs = search needs
 
 returns : tie.Need-returns
-returns c = by-answer (afterHead Refused (bodyOf _)) (infoOf _ _ _) (info.Refused _) (cc) refl ∙ sym (by-head _)
+returns c =
+    let known = c .before in
+    by-answer (afterHead Refused (bodyOf _)) (infoOf _ _ _) (info.Refused _) (sym (known .before .before .pdu-info .ensures) ∙ known .r .given .1) refl
+    ∙ sym (by-head _)
 
 returns-2 : tie.Need-returns-2
-returns-2 c = by-answer (afterHead Refused (bodyOf _)) (infoOf _ _ _) (info.Info _ _) (cc) (c .parse-body .ensures) ∙ sym (by-head _)
+returns-2 c =
+    let known = c .before .before in
+    by-answer (afterHead Refused (bodyOf _)) (infoOf _ _ _) (info.Info _ _) (sym (known .before .before .pdu-info .ensures) ∙ known .length .given .1) (c .parse-body .ensures)
+    ∙ sym (by-head _)
 
 pub parse-spec : {M : Type 1} → statement M
 parse-spec =

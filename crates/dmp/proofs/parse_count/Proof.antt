@@ -1,7 +1,9 @@
+use mathlib.Core.Path.{ap}
 use native.Mathlib.Omega.{arith}
 use borrow.Author.Needs.{needs}
 use Rattle.refusal.proofs.Laws.{stop, pass}
 use Rattle.dmp.specs.Layer.{countedOf}
+use Rattle.dmp.specs.declared.Dmp.the-variants.{Values}
 use Rattle.dmp.proofs.parse_count.Statement.{statement}
 use Rattle.dmp.proofs.parse_count.Tie as tie
 
@@ -10,7 +12,7 @@ refuse-requires c κs = search needs
 
 returns : tie.Need-returns
 unfolding countedOf
-returns c = stop 0 _ _ _ (omega arith) (cc)
+returns c = stop 0 _ _ _ (omega arith) (c .refuse .ensures)
 
 u16-at-requires : tie.Need-u16-at-requires
 u16-at-requires c κs = search needs
@@ -26,18 +28,19 @@ refuse-requires-2 c κs = search needs
 
 returns-2 : tie.Need-returns-2
 unfolding countedOf
-returns-2 c = stop 1 _ _ _ (omega arith) (cc)
+returns-2 c = stop 1 _ _ _ (omega arith) (c .refuse2 .ensures)
 
 refuse-requires-3 : tie.Need-refuse-requires-3
 refuse-requires-3 c κs = search needs
 
 returns-3 : tie.Need-returns-3
 unfolding countedOf
-returns-3 c = stop 2 _ _ _ (omega arith) (cc)
+returns-3 c = stop 2 _ _ _ (omega arith) (c .refuse3 .ensures)
 
 returns-4 : tie.Need-returns-4
 unfolding countedOf
-returns-4 c = pass _ _ _ (omega arith) (cc)
+returns-4 c = let counted = c .before .before in
+    pass _ _ _ (omega arith) (ap Values (counted .u16-at .ensures))
 
 pub parse-count-spec : {M : Type 1} → statement M
 parse-count-spec =

@@ -2,8 +2,8 @@ use borrow.Author.Needs.{needs}
 use Rattle.edition2009.proofs.name.Statement.{statement}
 use Rattle.edition2009.proofs.name.Tie as tie
 
-name-place-requires : tie.Need-name-place-requires
-name-place-requires c κs = search needs
+name-span-requires : tie.Need-name-span-requires
+name-span-requires c κs = search needs
 
 shown-requires : tie.Need-shown-requires
 shown-requires c κs = search needs
@@ -12,4 +12,4 @@ returns : tie.Need-returns
 returns c = cc
 
 pub name-spec : {M : Type 1} → statement M
-name-spec = tie.close (tie.spec name-place-requires shown-requires returns)
+name-spec = tie.close (tie.spec name-span-requires shown-requires returns)

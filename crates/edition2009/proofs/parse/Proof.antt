@@ -1,9 +1,12 @@
-use mathlib.Core.Path.{refl}
+use Prim.Native.Nat.{ℕ}
+use mathlib.Core.List.{List}
+use mathlib.Core.Path.{_≡_, refl, sym, ap, _∙_}
 use borrow.Author.Needs.{needs}
-use denote.Ref.{now}
 use Rattle.refusal.proofs.Laws.{by-answer}
+use Rattle.packet.specs.Packet.{cidIn}
 use Rattle.packet.proofs.Laws.{cid-known}
 use Rattle.edition2009.specs.Packet.{packet2009Of, withCid2009, reading2009Of}
+use Rattle.edition2009.specs.declared.DataRecord2009.{DataRecord2009}
 use Rattle.edition2009.specs.declared.Packet2009.the-variants.{Data, Refused}
 use Rattle.edition2009.proofs.Laws.{packet-within}
 use Rattle.edition2009.proofs.parse.Statement.{statement}
@@ -23,13 +26,21 @@ cid-requires c κs = search needs
 
 returns : tie.Need-returns
 unfolding reading2009Of
-returns c = by-answer (withCid2009 _) (packet2009Of _) (Refused _) (cc) refl
+returns c =
+    let known = c .before in
+    by-answer (withCid2009 _) (packet2009Of _) (Refused _) (sym (known .before .before .parse-packet .ensures) ∙ known .r .given .1) refl
+
+-- a data packet, beside the CID that was copied
+beside : (d cid : List ℕ) (x : DataRecord2009) → packet2009Of d ≡ Data x → cid ≡ cidIn d → record { cid = cid; packet = Data x } ≡ reading2009Of d
+unfolding reading2009Of
+beside d cid x e copied =
+    by-answer (withCid2009 d) (packet2009Of d) (Data x) e
+    (ap (λ (bytes : List ℕ). record { cid = bytes; packet = Data x }) (copied ∙ cid-known d (packet-within d x e)))
 
 returns-2 : tie.Need-returns-2
-unfolding reading2009Of
-returns-2 c = let d = now (c .before .before .before .before .before .before .args .datagram) in
-    let x = c .before .before .x .given .0 .0 in
-    by-answer (withCid2009 _) (packet2009Of _) (Data x) (cc) (cc (cid-known d (packet-within d x (cc))))
+returns-2 c =
+    let known = c .before .before in
+    beside _ _ _ (sym (known .before .before .parse-packet .ensures) ∙ known .x .given .1) (c .cid .ensures)
 
 pub parse-spec : {M : Type 1} → statement M
 parse-spec =

@@ -2,8 +2,8 @@ use borrow.Author.Needs.{needs}
 use Rattle.edition2009.proofs.values.Statement.{statement}
 use Rattle.edition2009.proofs.values.Tie as tie
 
-values-place-requires : tie.Need-values-place-requires
-values-place-requires c κs = search needs
+values-span-requires : tie.Need-values-span-requires
+values-span-requires c κs = search needs
 
 shown-requires : tie.Need-shown-requires
 shown-requires c κs = search needs
@@ -12,4 +12,4 @@ returns : tie.Need-returns
 returns c = cc
 
 pub values-spec : {M : Type 1} → statement M
-values-spec = tie.close (tie.spec values-place-requires shown-requires returns)
+values-spec = tie.close (tie.spec values-span-requires shown-requires returns)

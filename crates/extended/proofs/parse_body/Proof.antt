@@ -7,7 +7,7 @@ use Rattle.refusal.specs.Check.{_=?_, choose, reading}
 use Rattle.refusal.proofs.Tests.{chosen, passed-over}
 use Rattle.refusal.proofs.Laws.{stop, pass, inner, reading-++, reading-choose, by-answer}
 use Rattle.name.specs.Name.{zeroAt}
-use Rattle.framing.specs.Data.{nameField}
+use Rattle.name.specs.Name.{nameField}
 use Rattle.extended.specs.Synchronization.{synchronizationChecks, synchronizationOf, fieldsOf}
 use Rattle.extended.specs.UniverseDiscovery.{discoveryFramingChecks, discoveryFramingOf, discoveryPart, layerNamed}
 use Rattle.extended.specs.Extended.{kindChecks, bodyOf}
@@ -50,7 +50,7 @@ new-requires c κs = search needs
 
 returns : tie.Need-returns
 unfolding bodyOf
-returns c = stop 0 _ _ _ (omega arith) (cc)
+returns c = stop 0 _ _ _ (omega arith) (ap Refused (c .new .ensures))
 
 parse-requires : tie.Need-parse-requires
 parse-requires c κs = search needs
@@ -62,13 +62,21 @@ enum-known-fields : tie.Need-enum-known-fields
 enum-known-fields c = search needs
 
 returns-2 : tie.Need-returns-2
-returns-2 c = pass _ _ _ (omega arith)
-    (chosen _ _ _ (omega arith) (by-answer after-synchronization (synchronizationOf _ _) (synchronization.Refused _) (cc) refl))
+returns-2 c =
+    let known = c .before in
+    let read = known .before .before in
+    pass _ _ _ (omega arith)
+    (chosen _ _ _ (read .before .if2 .taken)
+    (by-answer after-synchronization (synchronizationOf _ _) (synchronization.Refused _) (sym (read .parse .ensures) ∙ known .r .given .1) refl))
     ∙ sym (by-kind _ _ _ _)
 
 returns-3 : tie.Need-returns-3
-returns-3 c = pass _ _ _ (omega arith)
-    (chosen _ _ _ (omega arith) (by-answer after-synchronization (synchronizationOf _ _) (synchronization.Layer _) (cc) refl))
+returns-3 c =
+    let known = c .before in
+    let read = known .before .before in
+    pass _ _ _ (omega arith)
+    (chosen _ _ _ (read .before .if2 .taken)
+    (by-answer after-synchronization (synchronizationOf _ _) (synchronization.Layer _) (sym (read .parse .ensures) ∙ known .fields .given .1) refl))
     ∙ sym (by-kind _ _ _ _)
 
 parse-requires-2 : tie.Need-parse-requires-2
@@ -81,13 +89,21 @@ enum-known-name : tie.Need-enum-known-name
 enum-known-name c = search needs
 
 returns-4 : tie.Need-returns-4
-returns-4 c = pass _ _ _ (omega arith)
-    (passed-over _ _ _ (omega arith) (by-answer after-discovery (discoveryFramingOf _ _) (discovery.Refused _) (cc) refl))
+returns-4 c =
+    let known = c .before in
+    let read = known .before .before in
+    pass _ _ _ (omega arith)
+    (passed-over _ _ _ (read .before .before .if2 .left)
+    (by-answer after-discovery (discoveryFramingOf _ _) (discovery.Refused _) (sym (read .parse2 .ensures) ∙ known .r2 .given .1) refl))
     ∙ sym (by-kind _ _ _ _)
 
 returns-5 : tie.Need-returns-5
-returns-5 c = pass _ _ _ (omega arith)
-    (passed-over _ _ _ (omega arith) (by-answer after-discovery (discoveryFramingOf _ _) (discovery.Layer _ _ _) (cc) refl))
+returns-5 c =
+    let known = c .before in
+    let read = known .before .before in
+    pass _ _ _ (omega arith)
+    (passed-over _ _ _ (read .before .before .if2 .left)
+    (by-answer after-discovery (discoveryFramingOf _ _) (discovery.Layer _ _ _) (sym (read .parse2 .ensures) ∙ known .name .given .1) refl))
     ∙ sym (by-kind _ _ _ _)
 
 new-requires-2 : tie.Need-new-requires-2
@@ -95,7 +111,7 @@ new-requires-2 c κs = search needs
 
 returns-6 : tie.Need-returns-6
 unfolding bodyOf
-returns-6 c = stop 1 _ _ _ (omega arith) (cc)
+returns-6 c = stop 1 _ _ _ (omega arith) (ap Refused (c .new2 .ensures))
 
 pub parse-body-spec : {M : Type 1} → statement M
 parse-body-spec =

@@ -1,6 +1,6 @@
-use mathlib.Core.List.{append-assoc, append-nil}
+use mathlib.Core.List.{append-assoc}
 use borrow.Author.Needs.{needs}
-use Rattle.text.proofs.Puts.{put-then, put-as}
+use Rattle.text.proofs.Puts.{put-then, put-last, put-as}
 use Rattle.line.specs.Lines.{dataLine}
 use Rattle.line.proofs.put_data.Statement.{statement}
 use Rattle.line.proofs.put_data.Tie as tie
@@ -31,7 +31,15 @@ same-length c = search needs
 
 returns : tie.Need-returns
 unfolding dataLine
-returns c = put-as (put-then (c .before .before .before .before .before .before .before .before .before .before .before .before .before .before .before .before .put-named .ensures) (put-then (c .before .before .before .before .before .before .before .before .before .before .before .before .put-data-fields .ensures) (put-then (c .before .before .before .before .before .before .before .put-field .ensures) (c .before .before .put .ensures)))) (simp (append-assoc, append-nil))
+returns c =
+    let ended = c .before .before in
+    let values = ended .before .before .before .before .before in
+    let fields = values .before .before .before .before .before in
+    let named = fields .before .before .before .before in
+    put-as
+    (put-then (named .put-named .ensures)
+    (put-then (fields .put-data-fields .ensures) (put-then (values .put-field .ensures) (put-last (ended .put .ensures)))))
+    (simp append-assoc)
 
 pub put-data-spec : {M : Type 1} → statement M
 put-data-spec =

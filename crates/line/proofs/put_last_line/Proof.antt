@@ -1,6 +1,5 @@
-use mathlib.Core.List.{append-assoc, append-nil}
 use borrow.Author.Needs.{needs}
-use Rattle.text.proofs.Puts.{put-then, put-as}
+use Rattle.text.proofs.Puts.{put-then, put-last}
 use Rattle.line.specs.Lines.{lastLine}
 use Rattle.line.proofs.put_last_line.Statement.{statement}
 use Rattle.line.proofs.put_last_line.Tie as tie
@@ -22,7 +21,11 @@ same-length c = search needs
 
 returns : tie.Need-returns
 unfolding lastLine
-returns c = put-as (put-then (c .before .before .before .before .before .before .before .before .before .before .before .put-ending .ensures) (put-then (c .before .before .before .before .before .before .before .put-decimal .ensures) (c .before .before .put .ensures))) (simp (append-assoc, append-nil))
+returns c =
+    let ended = c .before .before in
+    let number = ended .before .before .before .before .before in
+    let word = number .before .before .before .before in
+    put-then (word .put-ending .ensures) (put-then (number .put-decimal .ensures) (put-last (ended .put .ensures)))
 
 pub put-last-line-spec : {M : Type 1} → statement M
 put-last-line-spec =

@@ -1,7 +1,5 @@
-use mathlib.Core.Path.{_≡_}
 use borrow.Author.Needs.{needs}
 use Rattle.text.proofs.Puts.{put-as}
-use Rattle.packet.specs.declared.Packet.the-variants.{Data, Synchronization, Discovery, Refused}
 use Rattle.line.proofs.put_line.Statement.{statement}
 use Rattle.line.proofs.put_line.Tie as tie
 
@@ -39,29 +37,33 @@ same-length : tie.Need-same-length
 same-length c = search needs
 
 returns : tie.Need-returns
-returns c = let e : c .before .before .before .before .before .before .before .before .before .before .args .reading .packet ≡ Data (c .before .before .before .before .before .before .packet .given .0 .0) = cc in
-    put-as (c .before .before .put-data .ensures) (rw (c .before .before .before .name .ensures, e))
+returns c = let put = c .before .before in
+    let known = put .before .before .before .before in
+    put-as (put .put-data .ensures) (rw (put .before .name .ensures, known .packet .given .1))
 
 same-length-2 : tie.Need-same-length-2
 same-length-2 c = search needs
 
 returns-2 : tie.Need-returns-2
-returns-2 c = let e : c .before .before .before .before .before .before .before .before .before .args .reading .packet ≡ Synchronization (c .before .before .before .before .before .packet2 .given .0 .0) = cc in
-    put-as (c .before .before .put-synchronization .ensures) (rw e)
+returns-2 c = let put = c .before .before in
+    let known = put .before .before .before in
+    put-as (put .put-synchronization .ensures) (rw (known .packet2 .given .1))
 
 same-length-3 : tie.Need-same-length-3
 same-length-3 c = search needs
 
 returns-3 : tie.Need-returns-3
-returns-3 c = let e : c .before .before .before .before .before .before .before .before .before .before .args .reading .packet ≡ Discovery (c .before .before .before .before .before .before .packet3 .given .0 .0) = cc in
-    put-as (c .before .before .put-discovery .ensures) (rw (c .before .before .before .name2 .ensures, e))
+returns-3 c = let put = c .before .before in
+    let known = put .before .before .before .before in
+    put-as (put .put-discovery .ensures) (rw (put .before .name2 .ensures, known .packet3 .given .1))
 
 same-length-4 : tie.Need-same-length-4
 same-length-4 c = search needs
 
 returns-4 : tie.Need-returns-4
-returns-4 c = let e : c .before .before .before .before .before .before .before .before .before .args .reading .packet ≡ Refused (c .before .before .before .before .before .packet4 .given .0 .0) = cc in
-    put-as (c .before .before .put-refused .ensures) (rw e)
+returns-4 c = let put = c .before .before in
+    let known = put .before .before .before in
+    put-as (put .put-refused .ensures) (rw (known .packet4 .given .1))
 
 pub put-line-spec : {M : Type 1} → statement M
 put-line-spec =

@@ -1,6 +1,5 @@
-use mathlib.Core.List.{append-nil}
 use borrow.Author.Needs.{needs}
-use Rattle.text.proofs.Puts.{put-then, put-as}
+use Rattle.text.proofs.Puts.{put-then, put-last}
 use Rattle.line.specs.Lines.{refusedLine}
 use Rattle.line.proofs.put_refused.Statement.{statement}
 use Rattle.line.proofs.put_refused.Tie as tie
@@ -22,7 +21,11 @@ same-length c = search needs
 
 returns : tie.Need-returns
 unfolding refusedLine
-returns c = put-as (put-then (c .before .before .before .before .before .before .before .before .before .before .before .put-decimal .ensures) (put-then (c .before .before .before .before .before .before .before .put-refusal .ensures) (c .before .before .put .ensures))) (simp append-nil)
+returns c =
+    let ended = c .before .before in
+    let refusal = ended .before .before .before .before .before in
+    let number = refusal .before .before .before .before in
+    put-then (number .put-decimal .ensures) (put-then (refusal .put-refusal .ensures) (put-last (ended .put .ensures)))
 
 pub put-refused-spec : {M : Type 1} → statement M
 put-refused-spec =

@@ -1,6 +1,5 @@
-use mathlib.Core.List.{append-assoc, append-nil}
 use borrow.Author.Needs.{needs}
-use Rattle.text.proofs.Puts.{put-then, put-as}
+use Rattle.text.proofs.Puts.{put-then, put-last}
 use Rattle.line.specs.Lines.{synchronizationLine}
 use Rattle.line.proofs.put_synchronization.Statement.{statement}
 use Rattle.line.proofs.put_synchronization.Tie as tie
@@ -28,7 +27,13 @@ same-length c = search needs
 
 returns : tie.Need-returns
 unfolding synchronizationLine
-returns c = put-as (put-then (c .before .before .before .before .before .before .before .before .before .before .before .before .before .before .before .before .put-decimal .ensures) (put-then (c .before .before .before .before .before .before .before .before .before .before .before .put .ensures) (put-then (c .before .before .before .before .before .before .before .put-synchronization-fields .ensures) (c .before .before .put2 .ensures)))) (simp (append-assoc, append-nil))
+returns c =
+    let ended = c .before .before in
+    let fields = ended .before .before .before .before .before in
+    let word = fields .before .before .before .before in
+    let number = word .before .before .before .before .before in
+    put-then (number .put-decimal .ensures)
+    (put-then (word .put .ensures) (put-then (fields .put-synchronization-fields .ensures) (put-last (ended .put2 .ensures))))
 
 pub put-synchronization-spec : {M : Type 1} → statement M
 put-synchronization-spec =

@@ -16,7 +16,7 @@ new-requires c κs = search needs
 
 returns : tie.Need-returns
 unfolding checkedOf
-returns c = stop 0 _ _ _ (omega arith) (cc)
+returns c = stop 0 _ _ _ (omega arith) (rw (c .new .ensures))
 
 plain-run-requires : tie.Need-plain-run-requires
 plain-run-requires c κs = search needs
@@ -36,7 +36,7 @@ new-requires-2 c κs = search needs
 
 returns-3 : tie.Need-returns-3
 unfolding checkedOf
-returns-3 c = stop 1 _ _ _ (omega arith) (cc)
+returns-3 c = stop 1 _ _ _ (omega arith) (rw (c .new2 .ensures))
 
 whole-characters-requires : tie.Need-whole-characters-requires
 whole-characters-requires c κs = search needs
@@ -46,7 +46,7 @@ new-requires-3 c κs = search needs
 
 returns-4 : tie.Need-returns-4
 unfolding checkedOf
-returns-4 c = stop 2 _ _ _ (omega arith) (cc)
+returns-4 c = stop 2 _ _ _ (omega arith) (rw (c .new3 .ensures))
 
 returns-5 : tie.Need-returns-5
 unfolding checkedOf

@@ -1,3 +1,4 @@
+use mathlib.Core.Path.{_∙_}
 use borrow.Author.Needs.{needs}
 use denote.Ref.{now}
 use Rattle.name.proofs.Laws.{bytes-field}
@@ -21,8 +22,10 @@ same-length c = search needs
 
 returns : tie.Need-returns
 returns c =
-    let n = now (c .before .before .before .before .before .before .before .before .before .before .args .name) in
-    cc (bytes-field n)
+    let written = c .before .before in
+    let filled = written .before .before .before .before in
+    let n = now (filled .before .before .before .before .args .name) in
+    written .copy2 .ensures ∙ rw (filled .copy .ensures, bytes-field n)
 
 pub pack-source-name-spec : {M : Type 1} → statement M
 pack-source-name-spec =

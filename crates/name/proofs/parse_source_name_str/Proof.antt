@@ -1,5 +1,5 @@
-use Prim.Native.Nat.{_-_}
-use mathlib.Core.Path.{_≡_}
+use mathlib.Core.Path.{_≡_, sym, _∙_}
+use native.Mathlib.Nat.{sub-zero}
 use native.Mathlib.Omega.{arith}
 use borrow.Author.Needs.{needs}
 use denote.Ref.{now}
@@ -14,12 +14,13 @@ use Rattle.name.proofs.parse_source_name_str.Tie as tie
 
 -- what was tested is the text, and its length is the place of the zero
 text-is : (c : tie.After-whole-characters) →
-    let text = textOf (now (c .before .before .before .before .before .before .before .args .field)) in
-    (c .whole-characters .result ≡ wholeChars text) × (c .before .before .before .zero-at .result ≡ length text)
+    let zero = c .before .before .before in
+    let text = textOf (now (zero .before .before .before .before .args .field)) in
+    (c .whole-characters .result ≡ wholeChars text) × (zero .zero-at .result ≡ length text)
 text-is c =
-    let n = c .before .before .before .zero-at .result in
-    let z : n - 0 ≡ n = omega arith in
-    (cc, cc (text-length (now (c .before .before .before .before .before .before .before .args .field))))
+    let zero = c .before .before .before in
+    let field = now (zero .before .before .before .before .args .field) in
+    (c .whole-characters .ensures ∙ rw (sub-zero, zero .zero-at .ensures), zero .zero-at .ensures ∙ sym (text-length field))
 
 plain-run-requires : tie.Need-plain-run-requires
 plain-run-requires c κs = search needs
@@ -33,7 +34,7 @@ returns c =
     let s = now (c .before .before .before .before .before .args .field) in
     let run = c .before .before .before .plain-run in
     let t = plain-text s (run .result) (run .ensures) (omega arith) (omega arith) in
-    pass _ _ _ (omega (arith, t .0, t .1)) (cc (t .0))
+    pass _ _ _ (omega (arith, t .0, t .1)) (rw (t .0))
 
 zero-at-requires : tie.Need-zero-at-requires
 zero-at-requires c κs = search needs
@@ -43,7 +44,7 @@ new-requires c κs = search needs
 
 returns-2 : tie.Need-returns-2
 unfolding sourceNameOf
-returns-2 c = stop 0 _ _ _ (omega arith) (cc)
+returns-2 c = stop 0 _ _ _ (omega arith) (rw (c .new .ensures))
 
 sub-whole-characters : tie.Need-sub-whole-characters
 sub-whole-characters c = search needs
@@ -62,11 +63,13 @@ new-requires-2 c κs = search needs
 
 returns-3 : tie.Need-returns-3
 unfolding sourceNameOf
-returns-3 c = stop 1 _ _ _ (omega (arith, text-is (c .before .before))) (cc)
+returns-3 c = stop 1 _ _ _ (omega (arith, text-is (c .before .before))) (rw (c .new2 .ensures))
 
 returns-4 : tie.Need-returns-4
 unfolding sourceNameOf
-returns-4 c = pass _ _ _ (omega (arith, text-is (c .before))) (cc)
+returns-4 c =
+    let zero = c .before .before .before .before in
+    pass _ _ _ (omega (arith, text-is (c .before))) (rw (zero .zero-at .ensures))
 
 pub parse-source-name-str-spec : {M : Type 1} → statement M
 parse-source-name-str-spec =

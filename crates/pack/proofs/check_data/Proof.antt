@@ -1,17 +1,23 @@
-use mathlib.Core.List.{[], _∷_}
+use mathlib.Core.List.{List, [], _∷_}
 use mathlib.Core.Path.{refl, sym, _∙_}
 use native.Mathlib.Omega.{arith}
 use borrow.Author.Needs.{needs}
 use denote.Ref.{now}
 use lib.ListN.{length}
-use Rattle.refusal.specs.Check.{checkedOf}
+use Rattle.refusal.specs.Check.{Check, checkedOf}
 use Rattle.refusal.specs.declared.Checked.the-variants as checked
-use Rattle.refusal.proofs.Laws.{stop, pass, afterCheck, by-answer}
-use Rattle.name.specs.Name.{writtenNameChecks}
-use Rattle.pack.specs.Writing.{roomCheck, countCheck, dataLength}
-use Rattle.pack.proofs.Writing.{after-names}
+use Rattle.refusal.proofs.Laws.{stop, pass}
+use Rattle.pack.specs.Writing.{countCheck}
+use Rattle.pack.proofs.Writing.{judged}
 use Rattle.pack.proofs.check_data.Statement.{statement}
 use Rattle.pack.proofs.check_data.Tie as tie
+
+-- the function's start, and the check behind the name
+abbrev start : tie.After-check-source-name → tie.Start
+start c = c .before .before .before .before
+
+abbrev counted : tie.After-check-source-name → List Check
+counted c = countCheck 513 (length (now (start c .args .values))) ∷ []
 
 add-if1 : tie.Need-add-if1
 add-if1 c = search needs
@@ -21,7 +27,7 @@ refuse-requires c κs = search needs
 
 returns : tie.Need-returns
 unfolding checkedOf
-returns c = stop 0 _ _ _ (omega arith) (cc)
+returns c = stop 0 _ _ _ (omega arith) (c .refuse .ensures)
 
 check-source-name-requires : tie.Need-check-source-name-requires
 check-source-name-requires c κs = search needs
@@ -37,35 +43,25 @@ refuse-requires-2 c κs = search needs
 
 returns-2 : tie.Need-returns-2
 unfolding checkedOf
-returns-2 c = let a = c .before .before .before .before .before .before .before .before .args in
-    let n = now (a .name) in
-    let v = now (a .values) in
-    let rest = countCheck 513 (length v) ∷ [] in
-    let own = roomCheck (dataLength v) (a .room) ∷ [] in
-    pass checked.Refused own (afterCheck checked.Refused (checkedOf rest) (checkedOf (writtenNameChecks n))) (omega arith)
-    (by-answer (afterCheck checked.Refused (checkedOf rest)) (checkedOf (writtenNameChecks n)) checked.Passed (cc) (stop 0 _ _ _ (omega arith) (cc)))
-    ∙ sym (after-names own n rest)
+returns-2 c =
+    let told = c .before .before in
+    let read = told .before .before in
+    judged _ _ (now (start read .args .name)) (counted read) checked.Passed (omega arith) (sym (read .check-source-name .ensures) ∙ told .enum-told .given .1)
+    (stop 0 _ _ _ (omega arith) (c .refuse2 .ensures))
 
 returns-3 : tie.Need-returns-3
-returns-3 c = let a = c .before .before .before .before .before .before .before .args in
-    let n = now (a .name) in
-    let v = now (a .values) in
-    let rest = countCheck 513 (length v) ∷ [] in
-    let own = roomCheck (dataLength v) (a .room) ∷ [] in
-    pass checked.Refused own (afterCheck checked.Refused (checkedOf rest) (checkedOf (writtenNameChecks n))) (omega arith)
-    (by-answer (afterCheck checked.Refused (checkedOf rest)) (checkedOf (writtenNameChecks n)) (checked.Refused _) (cc) refl)
-    ∙ sym (after-names own n rest)
+returns-3 c =
+    let known = c .before in
+    let read = known .before .before in
+    judged _ _ (now (start read .args .name)) (counted read) (checked.Refused _) (omega arith) (sym (read .check-source-name .ensures) ∙ known .r .given .1) refl
 
 returns-4 : tie.Need-returns-4
 unfolding checkedOf
-returns-4 c = let a = c .before .before .before .before .before .before .before .args in
-    let n = now (a .name) in
-    let v = now (a .values) in
-    let rest = countCheck 513 (length v) ∷ [] in
-    let own = roomCheck (dataLength v) (a .room) ∷ [] in
-    pass checked.Refused own (afterCheck checked.Refused (checkedOf rest) (checkedOf (writtenNameChecks n))) (omega arith)
-    (by-answer (afterCheck checked.Refused (checkedOf rest)) (checkedOf (writtenNameChecks n)) checked.Passed (cc) (pass _ _ _ (omega arith) refl))
-    ∙ sym (after-names own n rest)
+returns-4 c =
+    let told = c .before in
+    let read = told .before .before in
+    judged _ _ (now (start read .args .name)) (counted read) checked.Passed (omega arith) (sym (read .check-source-name .ensures) ∙ told .enum-told .given .1)
+    (pass _ _ _ (omega arith) refl)
 
 pub check-data-spec : {M : Type 1} → statement M
 check-data-spec =

@@ -5,13 +5,12 @@ use native.Mathlib.Omega.{arith}
 use borrow.Author.Needs.{needs}
 use denote.Ref.{now}
 use lib.ListN.{length}
-use Rattle.refusal.specs.Check.{checkedOf}
+use Rattle.refusal.specs.Check.{Check, checkedOf}
 use Rattle.refusal.specs.declared.Checked.the-variants as checked
-use Rattle.refusal.proofs.Laws.{stop, pass, afterCheck, by-answer, all-hold, reading-++}
-use Rattle.name.specs.Name.{writtenNameChecks}
+use Rattle.refusal.proofs.Laws.{stop, all-hold, reading-++}
 use Rattle.discovery.specs.Universes.{orderChecks}
-use Rattle.pack.specs.Writing.{roomCheck, countCheck, discoveryLength}
-use Rattle.pack.proofs.Writing.{after-names}
+use Rattle.pack.specs.Writing.{countCheck}
+use Rattle.pack.proofs.Writing.{judged}
 use Rattle.pack.proofs.check_discovery.Statement.{statement}
 use Rattle.pack.proofs.check_discovery.Tie as tie
 
@@ -21,6 +20,13 @@ unfolding checkedOf
 within-count us h =
     reading-++ checked.Refused (countCheck 512 (length us) ∷ []) (orderChecks us) checked.Passed
     ∙ all-hold checked.Refused (countCheck 512 (length us) ∷ []) _ (h, tt)
+
+-- the function's start, and the checks behind the name
+abbrev start : tie.After-check-source-name → tie.Start
+start c = c .before .before .before .before
+
+abbrev ordered : tie.After-check-source-name → List Check
+ordered c = let us = now (start c .args .universes) in countCheck 512 (length us) ∷ orderChecks us
 
 mul-if1 : tie.Need-mul-if1
 mul-if1 c = search needs
@@ -33,7 +39,7 @@ refuse-requires c κs = search needs
 
 returns : tie.Need-returns
 unfolding checkedOf
-returns c = stop 0 _ _ _ (omega arith) (cc)
+returns c = stop 0 _ _ _ (omega arith) (c .refuse .ensures)
 
 check-source-name-requires : tie.Need-check-source-name-requires
 check-source-name-requires c κs = search needs
@@ -49,37 +55,27 @@ refuse-requires-2 c κs = search needs
 
 returns-2 : tie.Need-returns-2
 unfolding checkedOf
-returns-2 c = let a = c .before .before .before .before .before .before .before .before .args in
-    let n = now (a .name) in
-    let v = now (a .universes) in
-    let rest = countCheck 512 (length v) ∷ orderChecks v in
-    let own = roomCheck (discoveryLength v) (a .room) ∷ [] in
-    pass checked.Refused own (afterCheck checked.Refused (checkedOf rest) (checkedOf (writtenNameChecks n))) (omega arith)
-    (by-answer (afterCheck checked.Refused (checkedOf rest)) (checkedOf (writtenNameChecks n)) checked.Passed (cc) (stop 0 _ _ _ (omega arith) (cc)))
-    ∙ sym (after-names own n rest)
+returns-2 c =
+    let told = c .before .before in
+    let read = told .before .before in
+    judged _ _ (now (start read .args .name)) (ordered read) checked.Passed (omega arith) (sym (read .check-source-name .ensures) ∙ told .enum-told .given .1)
+    (stop 0 _ _ _ (omega arith) (c .refuse2 .ensures))
 
 check-order-requires : tie.Need-check-order-requires
 check-order-requires c κs = search needs
 
 returns-3 : tie.Need-returns-3
-returns-3 c = let a = c .before .before .before .before .before .before .before .args in
-    let n = now (a .name) in
-    let v = now (a .universes) in
-    let rest = countCheck 512 (length v) ∷ orderChecks v in
-    let own = roomCheck (discoveryLength v) (a .room) ∷ [] in
-    pass checked.Refused own (afterCheck checked.Refused (checkedOf rest) (checkedOf (writtenNameChecks n))) (omega arith)
-    (by-answer (afterCheck checked.Refused (checkedOf rest)) (checkedOf (writtenNameChecks n)) (checked.Refused _) (cc) refl)
-    ∙ sym (after-names own n rest)
+returns-3 c =
+    let known = c .before in
+    let read = known .before .before in
+    judged _ _ (now (start read .args .name)) (ordered read) (checked.Refused _) (omega arith) (sym (read .check-source-name .ensures) ∙ known .r .given .1) refl
 
 returns-4 : tie.Need-returns-4
-returns-4 c = let a = c .before .before .before .before .before .before .before .before .args in
-    let n = now (a .name) in
-    let v = now (a .universes) in
-    let rest = countCheck 512 (length v) ∷ orderChecks v in
-    let own = roomCheck (discoveryLength v) (a .room) ∷ [] in
-    pass checked.Refused own (afterCheck checked.Refused (checkedOf rest) (checkedOf (writtenNameChecks n))) (omega arith)
-    (by-answer (afterCheck checked.Refused (checkedOf rest)) (checkedOf (writtenNameChecks n)) checked.Passed (cc) (c .check-order .ensures ∙ sym (within-count v (omega arith))))
-    ∙ sym (after-names own n rest)
+returns-4 c =
+    let told = c .before .before in
+    let read = told .before .before in
+    judged _ _ (now (start read .args .name)) (ordered read) checked.Passed (omega arith) (sym (read .check-source-name .ensures) ∙ told .enum-told .given .1)
+    (c .check-order .ensures ∙ sym (within-count (now (start read .args .universes)) (omega arith)))
 
 pub check-discovery-spec : {M : Type 1} → statement M
 check-discovery-spec =

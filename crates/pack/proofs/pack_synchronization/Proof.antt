@@ -1,5 +1,5 @@
 use Prim.Native.Nat.{_≤_}
-use mathlib.Core.Path.{_≡_, refl, _∙_}
+use mathlib.Core.Path.{_≡_, refl, ap, _∙_}
 use native.Mathlib.Omega.{arith}
 use borrow.Author.Needs.{needs}
 use denote.Ref.{now}
@@ -7,6 +7,7 @@ use lib.ListN.{length}
 use Rattle.refusal.proofs.Laws.{stop, pass}
 use Rattle.wire.proofs.Laws.{sets-front}
 use Rattle.pack.specs.Writing.{synchronizationBytes, packedOf}
+use Rattle.pack.specs.declared.Packed.the-variants.{Refused}
 use Rattle.pack.proofs.Writing.{synchronization-long}
 use Rattle.pack.proofs.pack_synchronization.Statement.{statement}
 use Rattle.pack.proofs.pack_synchronization.Tie as tie
@@ -16,7 +17,7 @@ new-requires c κs = search needs
 
 returns : tie.Need-returns
 unfolding packedOf
-returns c = (stop 0 _ _ _ (omega arith) (cc), refl)
+returns c = (stop 0 _ _ _ (omega arith) (ap Refused (c .new .ensures)), refl)
 
 put-synchronization-requires : tie.Need-put-synchronization-requires
 put-synchronization-requires c κs = search needs

@@ -4,10 +4,13 @@ use borrow.Author.Needs.{needs}
 use denote.Ref.{now}
 use lib.ListN.{length}
 use Rattle.framing.specs.Bytes.{dataFramingBytes}
-use Rattle.pack.proofs.Writing.{root-then}
+use Rattle.pack.proofs.Writing.{framed-then}
 use Rattle.pack.specs.Writing.{rootHead, dataBytes}
 use Rattle.pack.proofs.put_data.Statement.{statement}
 use Rattle.pack.proofs.put_data.Tie as tie
+
+sixteen : (c : tie.Start) → length (c .args .cid) ≡ 16
+sixteen c = search needs
 
 add-put-root : tie.Need-add-put-root
 add-put-root c = search needs
@@ -23,9 +26,13 @@ same-length c = search needs
 
 returns : tie.Need-returns
 unfolding dataBytes
-returns c = let a = c .before .before .before .before .before .before .before .before .before .before .before .args in
-    let n : length (a .cid) ≡ 16 = search needs in
-    cc (root-then (now (a .buf)) (rootHead (109 + length (now (a .values))) 4) (a .cid) (dataFramingBytes (a .fields) (now (a .name)) (now (a .values))) refl n)
+returns c =
+    let framed = c .before .before in
+    let rooted = framed .before .before .before .before in
+    let start = rooted .before .before .before .before .before in
+    let a = start .args in
+    framed-then (now (a .buf)) _ _ (rootHead (109 + length (now (a .values))) 4) (a .cid) (dataFramingBytes (a .fields) (now (a .name)) (now (a .values))) refl (sixteen start)
+    (rooted .put-root .ensures) (framed .pack .ensures)
 
 pub put-data-spec : {M : Type 1} → statement M
 put-data-spec =

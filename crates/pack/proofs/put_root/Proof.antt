@@ -1,4 +1,12 @@
+use Prim.Native.Nat.{ℕ}
+use mathlib.Core.List.{List, [], _∷_, _++_}
+use mathlib.Core.Path.{_≡_}
 use borrow.Author.Needs.{needs}
+use denote.Ref.{now}
+use lib.Seq.{sets}
+use Rattle.wire.specs.Fields.{be16, be32, join}
+use Rattle.pdu.specs.Head.{flagsField}
+use Rattle.pack.specs.Writing.{identifier, rootHead}
 use Rattle.pack.proofs.put_root.Statement.{statement}
 use Rattle.pack.proofs.put_root.Tie as tie
 
@@ -50,8 +58,21 @@ copy-requires-2 c κs = search needs
 same-length : tie.Need-same-length
 same-length c = search needs
 
+-- the bytes before the CID, and the CID written into what they left
+written : (l headed copied : List ℕ) (flags n vector : ℕ) (cid : List ℕ) →
+    flags ≡ flagsField n →
+    headed ≡ sets l 0 (join (be16 0x0010 ∷ be16 0 ∷ identifier ∷ be16 flags ∷ be32 vector ∷ [])) →
+    copied ≡ sets headed 22 cid →
+    copied ≡ sets l 0 (rootHead n vector ++ cid)
+written l headed copied flags n vector cid p q r = cc
+
 returns : tie.Need-returns
-returns c = cc
+returns c =
+    let copied = c .before .before in
+    let headed = copied .before .before .before .before .before in
+    let flagged = headed .before .before .before in
+    let a = flagged .before .before .args in
+    written (now (a .buf)) _ _ _ (a .length) (a .vector) (a .t4) (flagged .flags-and-length .ensures) (headed .copy .ensures) (copied .copy2 .ensures)
 
 pub put-root-spec : {M : Type 1} → statement M
 put-root-spec =

@@ -3,10 +3,13 @@ use borrow.Author.Needs.{needs}
 use denote.Ref.{now}
 use lib.ListN.{length}
 use Rattle.extended.specs.Bytes.{synchronizationFramingBytes}
-use Rattle.pack.proofs.Writing.{root-then}
+use Rattle.pack.proofs.Writing.{framed-then}
 use Rattle.pack.specs.Writing.{rootHead, synchronizationBytes}
 use Rattle.pack.proofs.put_synchronization.Statement.{statement}
 use Rattle.pack.proofs.put_synchronization.Tie as tie
+
+sixteen : (c : tie.Start) → length (c .args .cid) ≡ 16
+sixteen c = search needs
 
 put-root-requires : tie.Need-put-root-requires
 put-root-requires c κs = search needs
@@ -19,9 +22,13 @@ same-length c = search needs
 
 returns : tie.Need-returns
 unfolding synchronizationBytes
-returns c = let a = c .before .before .before .before .before .before .before .before .before .args in
-    let n : length (a .cid) ≡ 16 = search needs in
-    cc (root-then (now (a .buf)) (rootHead 33 8) (a .cid) (synchronizationFramingBytes (a .fields)) refl n)
+returns c =
+    let framed = c .before .before in
+    let rooted = framed .before .before .before .before in
+    let start = rooted .before .before .before in
+    let a = start .args in
+    framed-then (now (a .buf)) _ _ (rootHead 33 8) (a .cid) (synchronizationFramingBytes (a .fields)) refl (sixteen start)
+    (rooted .put-root .ensures) (framed .pack .ensures)
 
 pub put-synchronization-spec : {M : Type 1} → statement M
 put-synchronization-spec = tie.close (tie.spec put-root-requires pack-requires same-length returns)

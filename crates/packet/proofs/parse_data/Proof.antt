@@ -1,14 +1,15 @@
 use Prim.Native.Nat.{ℕ}
 use mathlib.Core.List.{List}
-use mathlib.Core.Path.{_≡_, refl, sym, _∙_}
+use mathlib.Core.Path.{_≡_, refl, sym, ap, _∙_}
 use borrow.Author.Needs.{needs}
 use Rattle.refusal.proofs.Laws.{inner, by-answer}
 use Rattle.pdu.specs.Head.{lengthOf}
 use Rattle.framing.specs.Data.{dataChecks, dataOf, fieldsOf, layerOf}
-use Rattle.framing.specs.declared.Edition.the-variants.{E2018}
-use Rattle.framing.specs.declared.data.Data as layers
-use Rattle.framing.specs.declared.data.Data.the-variants as layer
-use Rattle.packet.specs.Packet.{place, dataRecord, dataPacketOf}
+use Rattle.pdu.specs.declared.Edition.the-variants.{E2018}
+use Rattle.framing.specs.declared.DataFields.{DataFields}
+use Rattle.framing.specs.declared.Data as layers
+use Rattle.framing.specs.declared.Data.the-variants as layer
+use Rattle.packet.specs.Packet.{span, dataRecord, dataPacketOf}
 use Rattle.packet.specs.declared.Packet.{Packet}
 use Rattle.packet.specs.declared.Packet.the-variants.{Data, Refused}
 use Rattle.packet.proofs.parse_data.Statement.{statement}
@@ -17,7 +18,7 @@ use Rattle.packet.proofs.parse_data.Tie as tie
 -- the packet, by what its framing layer is found to be
 abbrev after : List ℕ → layers.Data → Packet
 after p (layer.Refused r) = Refused r
-after p (layer.Layer name values) = Data (record { fields = fieldsOf p; name = place 44 name; values = place 125 values })
+after p (layer.Layer name values) = Data (record { fields = fieldsOf p; name = span 44 name; values = span 125 values })
 
 by-layer : (p : List ℕ) → dataPacketOf p ≡ after p (dataOf E2018 p)
 unfolding dataPacketOf dataOf
@@ -36,11 +37,17 @@ fields-requires : tie.Need-fields-requires
 fields-requires c κs = search needs
 
 returns : tie.Need-returns
-returns c = by-answer (after _) (dataOf _ _) (layer.Refused _) (cc) refl ∙ sym (by-layer _)
+returns c =
+    let known = c .before in
+    by-answer (after _) (dataOf _ _) (layer.Refused _) (sym (known .before .before .parse .ensures) ∙ known .r .given .1) refl ∙ sym (by-layer _)
 
 returns-2 : tie.Need-returns-2
-returns-2 c = let g = c .before .before .name .given .0 in
-    by-answer (after _) (dataOf _ _) (layer.Layer (g .0) (g .1 .0)) (cc) (cc) ∙ sym (by-layer _)
+returns-2 c =
+    let known = c .before .before in
+    let g = known .name .given in
+    by-answer (after _) (dataOf _ _) (layer.Layer (g .0 .0) (g .0 .1 .0)) (sym (known .before .before .parse .ensures) ∙ g .1)
+    (ap (λ (f : DataFields). Data (record { fields = f; name = span 44 (g .0 .0); values = span 125 (g .0 .1 .0) })) (c .fields .ensures))
+    ∙ sym (by-layer _)
 
 pub parse-data-spec : {M : Type 1} → statement M
 parse-data-spec =

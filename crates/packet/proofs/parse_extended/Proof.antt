@@ -10,7 +10,7 @@ use Rattle.pdu.specs.declared.VectorLength.the-variants.{Four}
 use Rattle.extended.specs.Extended.{extendedChecks, extendedOf, layerOf}
 use Rattle.extended.specs.declared.Extended.{Extended}
 use Rattle.extended.specs.declared.Extended.the-variants as layer
-use Rattle.packet.specs.Packet.{place, extendedRecord, extendedPacketOf}
+use Rattle.packet.specs.Packet.{span, extendedRecord, extendedPacketOf}
 use Rattle.packet.specs.declared.Packet.{Packet}
 use Rattle.packet.specs.declared.Packet.the-variants.{Synchronization, Discovery, Refused}
 use Rattle.packet.proofs.parse_extended.Statement.{statement}
@@ -20,7 +20,7 @@ use Rattle.packet.proofs.parse_extended.Tie as tie
 abbrev after : Extended → Packet
 after (layer.Refused r) = Refused r
 after (layer.Synchronization fields) = Synchronization (record { fields = fields })
-after (layer.Discovery name fields n) = Discovery (record { fields = fields; name = place 44 name; universes = place 120 (2 * n) })
+after (layer.Discovery name fields n) = Discovery (record { fields = fields; name = span 44 name; universes = span 120 (2 * n) })
 
 by-layer : (whole : ℕ) (p : List ℕ) → extendedPacketOf whole p ≡ after (extendedOf whole p)
 unfolding extendedPacketOf extendedOf
@@ -47,13 +47,19 @@ mul-t13 : tie.Need-mul-t13
 mul-t13 c = search needs
 
 returns : tie.Need-returns
-returns c = by-answer after (extendedOf _ _) (layer.Refused _) (cc) refl ∙ sym (by-layer _ _)
+returns c =
+    let known = c .before in
+    by-answer after (extendedOf _ _) (layer.Refused _) (sym (known .before .before .parse .ensures) ∙ known .r .given .1) refl ∙ sym (by-layer _ _)
 
 returns-2 : tie.Need-returns-2
-returns-2 c = by-answer after (extendedOf _ _) (layer.Synchronization _) (cc) refl ∙ sym (by-layer _ _)
+returns-2 c =
+    let known = c .before in
+    by-answer after (extendedOf _ _) (layer.Synchronization _) (sym (known .before .before .parse .ensures) ∙ known .fields .given .1) refl ∙ sym (by-layer _ _)
 
 returns-3 : tie.Need-returns-3
-returns-3 c = by-answer after (extendedOf _ _) (layer.Discovery _ _ _) (cc) refl ∙ sym (by-layer _ _)
+returns-3 c =
+    let known = c .before in
+    by-answer after (extendedOf _ _) (layer.Discovery _ _ _) (sym (known .before .before .parse .ensures) ∙ known .name .given .1) refl ∙ sym (by-layer _ _)
 
 pub parse-extended-spec : {M : Type 1} → statement M
 parse-extended-spec =

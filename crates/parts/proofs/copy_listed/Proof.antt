@@ -1,4 +1,4 @@
-use mathlib.Core.Path.{refl}
+use mathlib.Core.Path.{refl, _∙_}
 use native.Mathlib.Omega.{arith}
 use borrow.Author.Needs.{needs}
 use Rattle.refusal.proofs.Laws.{stop, pass}
@@ -21,7 +21,9 @@ same-length : tie.Need-same-length
 same-length c = search needs
 
 returns-2 : tie.Need-returns-2
-returns-2 c = (pass _ _ _ (omega arith) refl, cc)
+returns-2 c =
+    let copied = c .before .before in
+    (pass _ _ _ (omega arith) refl, copied .copy-universes .ensures ∙ rw (copied .before .before .shown .ensures))
 
 pub copy-listed-spec : {M : Type 1} → statement M
 copy-listed-spec =

@@ -1,8 +1,5 @@
-use mathlib.Core.Path.{_≡_, refl}
+use mathlib.Core.Path.{refl, sym, _∙_}
 use borrow.Author.Needs.{needs}
-use denote.Ref.{now}
-use Rattle.packet.specs.Packet.{packetOf}
-use Rattle.packet.specs.declared.Packet.the-variants.{Data, Synchronization, Discovery, Refused}
 use Rattle.parts.proofs.copy_universes.Statement.{statement}
 use Rattle.parts.proofs.copy_universes.Tie as tie
 
@@ -37,24 +34,25 @@ same-length : tie.Need-same-length
 same-length c = search needs
 
 returns : tie.Need-returns
-returns c = let d = now (c .before .before .before .before .before .before .before .before .before .before .args .datagram) in
-    let e : packetOf d ≡ Discovery (c .before .before .before .before .before .x .given .0 .0) = cc in
-    rw e (c .before .before .copy-listed .ensures)
+returns c =
+    let copied = c .before .before in
+    let known = copied .before .before .before in
+    rw (sym (known .before .before .parse-packet .ensures) ∙ known .x .given .1) (copied .copy-listed .ensures)
 
 returns-2 : tie.Need-returns-2
-returns-2 c = let d = now (c .before .before .before .before .before .before .args .datagram) in
-    let e : packetOf d ≡ Data (c .before .enum-told .given .0 .0) = cc in
-    rw (c .refuse-copy .ensures, e) (refl, refl)
+returns-2 c =
+    let told = c .before in
+    rw (c .refuse-copy .ensures, sym (told .before .before .parse-packet .ensures) ∙ told .enum-told .given .1) (refl, refl)
 
 returns-3 : tie.Need-returns-3
-returns-3 c = let d = now (c .before .before .before .before .before .before .args .datagram) in
-    let e : packetOf d ≡ Synchronization (c .before .enum-told2 .given .0 .0) = cc in
-    rw (c .refuse-copy2 .ensures, e) (refl, refl)
+returns-3 c =
+    let told = c .before in
+    rw (c .refuse-copy2 .ensures, sym (told .before .before .parse-packet .ensures) ∙ told .enum-told2 .given .1) (refl, refl)
 
 returns-4 : tie.Need-returns-4
-returns-4 c = let d = now (c .before .before .before .before .before .before .args .datagram) in
-    let e : packetOf d ≡ Refused (c .before .enum-told3 .given .0 .0) = cc in
-    rw (c .refuse-copy3 .ensures, e) (refl, refl)
+returns-4 c =
+    let told = c .before in
+    rw (c .refuse-copy3 .ensures, sym (told .before .before .parse-packet .ensures) ∙ told .enum-told3 .given .1) (refl, refl)
 
 pub copy-universes-spec : {M : Type 1} → statement M
 copy-universes-spec =

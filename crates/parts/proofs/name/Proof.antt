@@ -2,14 +2,14 @@ use borrow.Author.Needs.{needs}
 use Rattle.parts.proofs.name.Statement.{statement}
 use Rattle.parts.proofs.name.Tie as tie
 
-name-place-requires : tie.Need-name-place-requires
-name-place-requires c κs = search needs
+name-span-requires : tie.Need-name-span-requires
+name-span-requires c κs = search needs
 
 shown-requires : tie.Need-shown-requires
 shown-requires c κs = search needs
 
 returns : tie.Need-returns
-returns c = cc
+returns c = rw (c .shown .ensures, c .before .name-span .ensures)
 
 pub name-spec : {M : Type 1} → statement M
-name-spec = tie.close (tie.spec name-place-requires shown-requires returns)
+name-spec = tie.close (tie.spec name-span-requires shown-requires returns)

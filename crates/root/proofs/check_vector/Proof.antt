@@ -1,12 +1,12 @@
 use Prim.Native.Nat.{ℕ}
-use mathlib.Core.Path.{_≡_, refl}
+use mathlib.Core.Path.{_≡_, refl, ap}
 use native.Mathlib.Omega.{arith}
 use borrow.Author.Needs.{needs}
 use Rattle.refusal.specs.Check.{checkedOf}
-use Rattle.refusal.specs.declared.Checked.the-variants.{Passed}
+use Rattle.refusal.specs.declared.Checked.the-variants.{Passed, Refused}
 use Rattle.refusal.proofs.Laws.{stop, pass, by-answer}
-use Rattle.framing.specs.declared.Edition.{Edition}
-use Rattle.framing.specs.declared.Edition.the-variants.{E2018, E2009}
+use Rattle.pdu.specs.declared.Edition.{Edition}
+use Rattle.pdu.specs.declared.Edition.the-variants.{E2018, E2009}
 use Rattle.root.specs.Root.{vectorChecks}
 use Rattle.root.proofs.check_vector.Statement.{statement}
 use Rattle.root.proofs.check_vector.Tie as tie
@@ -31,18 +31,27 @@ enum-told-2 c = search needs
 
 returns-2 : tie.Need-returns-2
 unfolding checkedOf
-returns-2 c = let a = c .before .before .before .before .before .args in
-    by-answer (λ (e : Edition). checkedOf (vectorChecks e (a .vector))) (a .edition) E2018 (cc) (pass _ _ _ (omega arith) refl)
+returns-2 c =
+    let told = c .before in
+    let a = told .before .before .before .before .args in
+    by-answer (λ (e : Edition). checkedOf (vectorChecks e (a .vector))) (a .edition) E2018 (told .enum-told2 .given .1) (pass _ _ _ (omega arith) refl)
 
 returns-3 : tie.Need-returns-3
 unfolding checkedOf
-returns-3 c = let a = c .before .before .before .before .args in
-    by-answer (λ (e : Edition). checkedOf (vectorChecks e (a .vector))) (a .edition) E2009 (cc) (stop 0 _ _ _ (omega arith) (cc))
+returns-3 c =
+    let made = c .before .before in
+    let a = made .before .before .args in
+    by-answer (λ (e : Edition). checkedOf (vectorChecks e (a .vector))) (a .edition) E2009 (c .enum-told .given .1)
+    (stop 0 _ _ _ (omega arith) (ap Refused (made .new .ensures)))
 
 returns-4 : tie.Need-returns-4
 unfolding checkedOf
-returns-4 c = let a = c .before .before .before .before .before .args in
-    by-answer (λ (e : Edition). checkedOf (vectorChecks e (a .vector))) (a .edition) E2018 (cc) (stop 0 _ _ _ (omega arith) (cc))
+returns-4 c =
+    let told = c .before in
+    let made = told .before .before in
+    let a = made .before .before .args in
+    by-answer (λ (e : Edition). checkedOf (vectorChecks e (a .vector))) (a .edition) E2018 (told .enum-told2 .given .1)
+    (stop 0 _ _ _ (omega arith) (ap Refused (made .new .ensures)))
 
 pub check-vector-spec : {M : Type 1} → statement M
 check-vector-spec =

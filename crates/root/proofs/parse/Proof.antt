@@ -1,6 +1,6 @@
 use Prim.Native.Nat.{ℕ, _≤_}
 use mathlib.Core.List.{List, []}
-use mathlib.Core.Path.{_≡_, refl, sym, _∙_}
+use mathlib.Core.Path.{_≡_, refl, sym, ap, _∙_}
 use native.Mathlib.Omega.{arith}
 use borrow.Author.Needs.{needs}
 use denote.Ref.{now}
@@ -11,7 +11,7 @@ use Rattle.refusal.proofs.Laws.{found, afterCheck, check-first, by-answer}
 use Rattle.wire.proofs.Laws.{rest}
 use Rattle.pdu.specs.Head.{lengthOf, vectorOf}
 use Rattle.pdu.specs.declared.VectorLength.the-variants.{Four}
-use Rattle.framing.specs.declared.Edition.{Edition}
+use Rattle.pdu.specs.declared.Edition.{Edition}
 use Rattle.root.specs.Root.{preambleChecks, rootChecks, rootPart, layerOf, rootOf}
 use Rattle.root.specs.declared.Root.the-variants.{Layer, Refused}
 use Rattle.root.proofs.parse.Statement.{statement}
@@ -29,6 +29,12 @@ long d e =
     let f = found checked.Refused (preambleChecks d) checked.Passed checked.Passed (λ r q. let z : _≡_ {A = ℕ} 0 1 = cc in omega arith) e in
     omega arith
 
+abbrev datagram : tie.After-enum-told → List ℕ
+datagram c = now (c .before .before .before .before .args .datagram)
+
+past : (c : tie.After-enum-told) → checkedOf (preambleChecks (datagram c)) ≡ checked.Passed
+past c = sym (c .before .before .check-preamble .ensures) ∙ c .enum-told .given .1
+
 check-preamble-requires : tie.Need-check-preamble-requires
 check-preamble-requires c κs = search needs
 
@@ -39,11 +45,10 @@ enum-told : tie.Need-enum-told
 enum-told c = search needs
 
 sub-parse-layer : tie.Need-sub-parse-layer
-sub-parse-layer c = long (now (c .before .before .before .before .args .datagram)) (cc)
+sub-parse-layer c = long (datagram c) (past c)
 
 part-parse-layer-start : tie.Need-part-parse-layer-start
-part-parse-layer-start c = let d = now (c .before .before .before .before .args .datagram) in
-    long d (cc)
+part-parse-layer-start c = long (datagram c) (past c)
 
 part-parse-layer-end : tie.Need-part-parse-layer-end
 part-parse-layer-end c = search needs
@@ -52,16 +57,21 @@ parse-layer-requires : tie.Need-parse-layer-requires
 parse-layer-requires c κs = search needs
 
 returns : tie.Need-returns
-returns c = let a = c .before .before .before .before .before .args in
-    by-answer (afterCheck Refused (layerOf (a .edition) (rootPart (now (a .datagram))))) (checkedOf (preambleChecks (now (a .datagram)))) (checked.Refused _) (cc) refl
+returns c =
+    let known = c .before in
+    let a = known .before .before .before .before .args in
+    by-answer (afterCheck Refused (layerOf (a .edition) (rootPart (now (a .datagram))))) (checkedOf (preambleChecks (now (a .datagram)))) (checked.Refused _)
+    (sym (known .before .before .check-preamble .ensures) ∙ known .r .given .1) refl
     ∙ sym (by-preamble _ _)
 
 returns-2 : tie.Need-returns-2
-returns-2 c = let a = c .before .before .before .before .before .before .args in
-    let d = now (a .datagram) in
-    by-answer (afterCheck Refused (layerOf (a .edition) (rootPart d))) (checkedOf (preambleChecks d)) checked.Passed (cc)
-    (c .parse-layer .ensures ∙ rw (rest d 16))
-    ∙ sym (by-preamble (a .edition) d)
+returns-2 c =
+    let told = c .before .before in
+    let edition = told .before .before .before .before .args .edition in
+    let d = datagram told in
+    by-answer (afterCheck Refused (layerOf edition (rootPart d))) (checkedOf (preambleChecks d)) checked.Passed (past told)
+    (c .parse-layer .ensures ∙ ap (layerOf edition) (rest d 16))
+    ∙ sym (by-preamble edition d)
 
 pub parse-spec : {M : Type 1} → statement M
 parse-spec =

@@ -30,11 +30,14 @@ same-length : tie.Need-same-length
 same-length c = search needs
 
 returns : tie.Need-returns
-returns c = let d = c .before .before .before .before .before .before .before .spell .last .0 in
-    let k = c .before .before .before .before .before .before .before .spell .result in
+returns c = let shown = c .before .before in
+    let spelled = shown .before .before .before .before .before in
+    let a = spelled .before .before .before .args in
+    let d = spelled .spell .last .0 in
+    let k = spelled .spell .result in
     let h : length (drop k d) ≤ 20 - k = omega (arith, length-drop k d) in
-    let e : take (20 - k) (drop k d) ≡ decimal (c .before .before .before .before .before .before .before .before .before .before .args .n) = take-all (20 - k) (drop k d) h ∙ c .before .before .before .before .before .before .before .spell .ensures .1 in
-    rw (← e) (c .before .before .put .ensures)
+    let e : take (20 - k) (drop k d) ≡ decimal (a .n) = take-all (20 - k) (drop k d) h ∙ spelled .spell .ensures .1 in
+    rw (← e) (shown .put .ensures)
 
 pub put-decimal-spec : {M : Type 1} → statement M
 put-decimal-spec =

@@ -29,7 +29,9 @@ same-length : tie.Need-same-length Inv-loop μ-loop
 same-length c = search needs
 
 returns : tie.Need-returns Inv-loop μ-loop
-returns c = rw (hex-none (now (c .before .before .before .before .before .before .before .before .args .s)) (omega arith)) (c .before .before .put .ensures)
+returns c = let put = c .before .before in
+    let a = put .before .before .before .before .before .before .args in
+    rw (hex-none (now (a .s)) (omega arith)) (put .put .ensures)
 
 shared-slice-read-put-hex-byte : tie.Need-shared-slice-read-put-hex-byte Inv-loop μ-loop
 shared-slice-read-put-hex-byte c = omega arith
@@ -53,24 +55,29 @@ loop-less : tie.Need-loop-less Inv-loop μ-loop
 loop-less c = omega arith
 
 loop-again : tie.Need-loop-again Inv-loop μ-loop
-loop-again c = let s = now (c .before .before .before .before .before .before .before .before .before .before .before .before .before .before .before .args .s) in
-    let i = c .before .before .before .before .before .before .loop .i in
+loop-again c = let put = c .before .before in
+    let turn = put .before .before .before .before in
+    let first = turn .before .before .before in
+    let s = now (first .before .before .before .before .before .before .args .s) in
+    let i = turn .loop .i in
     let h : i < length s = omega arith in
-    let e = c .before .before .put-hex-byte2 .ensures in (
+    let e = put .put-hex-byte2 .ensures in (
       omega arith,
       omega arith,
-      ap length (e .written) ∙ simp length-sets (c .before .before .before .before .before .before .loop .inv .2),
-      λ l p q. rw (hex-more s i h) (put-then (c .before .before .before .before .before .before .loop .inv .3 l p q) e),
+      ap length (e .written) ∙ simp length-sets (turn .loop .inv .2),
+      λ l p q. rw (hex-more s i h) (put-then (turn .loop .inv .3 l p q) e),
     )
 
 same-length-2 : tie.Need-same-length-2 Inv-loop μ-loop
 same-length-2 c = c .before .loop .inv .2 ∙ ap length (c .before .before .before .before .put-hex-byte .ensures .written) ∙ simp length-sets
 
 returns-2 : tie.Need-returns-2 Inv-loop μ-loop
-returns-2 c = let s = now (c .before .before .before .before .before .before .before .before .before .before .args .s) in
-    let e = c .before .before .before .before .put-hex-byte .ensures in
-    let whole : take (c .before .loop .i) s ≡ s = take-all (c .before .loop .i) s (omega arith) in
-    rw (hex-some s (omega arith), ← whole) (c .before .loop .inv .3 _ _ (rw (hex-first s (omega arith)) e))
+returns-2 c = let over = c .before in
+    let first = over .before .before .before in
+    let s = now (first .before .before .before .before .before .before .args .s) in
+    let e = first .put-hex-byte .ensures in
+    let whole : take (over .loop .i) s ≡ s = take-all (over .loop .i) s (omega arith) in
+    rw (hex-some s (omega arith), ← whole) (over .loop .inv .3 _ _ (rw (hex-first s (omega arith)) e))
 
 pub put-hex-spec : {M : Type 1} → statement M
 put-hex-spec =

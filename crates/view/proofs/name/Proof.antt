@@ -1,4 +1,4 @@
--- `view::name` shows what stands at the viewer's place of the name, by the walk of `Parts`.
+-- `view::name` shows what stands at the viewer's span of the name, by the walk of `Parts`.
 -- Assumes nothing.
 use mathlib.Core.Path.{refl}
 use contract.Running.{givenOf, tables, tablesOf}

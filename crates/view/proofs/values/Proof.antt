@@ -1,4 +1,4 @@
--- `view::values` shows what stands at the viewer's place of the values, by the walk of `Parts`.
+-- `view::values` shows what stands at the viewer's span of the values, by the walk of `Parts`.
 -- Assumes nothing.
 use mathlib.Core.Path.{refl}
 use contract.Running.{givenOf, tables, tablesOf}

@@ -1,4 +1,4 @@
--- `view::view` meets its contract. Its walk: `parts::places_in` is called on the datagram, and the viewer is made of the datagram and of the places found.
+-- `view::view` meets its contract. Its walk: `parts::spans_in` is called on the datagram, and the viewer is made of the datagram and of the spans found.
 -- Assumes nothing.
 use mathlib.Core.Path.{_≡_, refl, ap}
 use Prim.Native.Nat.{ℕ}
@@ -39,18 +39,18 @@ use denote.Triple.Walked.{says, Stays, stay-none-slice, walkOf, goes-none-slice,
 use denote.Triple.Clauses.{ensured, lasts}
 use denote.Exit.{yes}
 use Rattle.packet.specs.Packet.{packetOf}
-use Rattle.packet.specs.declared.Place.{Place}
-use Rattle.packet.proofs.Place as place
-use Rattle.packet.proofs.Place.Laws as place-laws
-use Rattle.parts.specs.Parts.{placesOf}
-use Rattle.parts.specs.declared.Places.{Places}
-use Rattle.parts.proofs.Places as places
-use Rattle.parts.proofs.Places.Laws as places-laws
-use Rattle.parts.proofs.places_in as places-in
-use Rattle.parts.proofs.places_in.Symbol as callee
-use Rattle.parts.proofs.places_in.Met as callee-met
+use Rattle.packet.specs.declared.Span.{Span}
+use Rattle.packet.proofs.Span as span
+use Rattle.packet.proofs.Span.Laws as span-laws
+use Rattle.parts.specs.Parts.{spansOf}
+use Rattle.parts.specs.declared.Spans.{Spans}
+use Rattle.parts.proofs.Spans as spans
+use Rattle.parts.proofs.Spans.Laws as spans-laws
+use Rattle.parts.proofs.spans_in as spans-in
+use Rattle.parts.proofs.spans_in.Symbol as callee
+use Rattle.parts.proofs.spans_in.Met as callee-met
 use Rattle.view.specs.declared.Viewer.{Viewer}
-use Rattle.view.proofs.Viewing.{Bytes, declared, laws, place-val, field-vals}
+use Rattle.view.proofs.Viewing.{Bytes, declared, laws, span-val, field-vals}
 use Rattle.view.proofs.view as f
 use Rattle.view.proofs.view.Key as key
 use Rattle.view.proofs.view.Statement as stated
@@ -60,8 +60,8 @@ abbrev stays : Stays (f.ended .signature .params) (f.ended .kept)
 stays = (stay-none-slice (0 ∷ []) tt (plain (λ _. u8)) yes, tt)
 
 module _ {M : Type 1} (𝓤 : URA M) (H : Heap 𝓤) (A : Atoms 𝓤) (mem : Memory → SProp 𝓤) (run : Routine → Fun 𝓤) where
-  abbrev PlacesIn : Contract 𝓤
-  PlacesIn = tripleOf 𝓤 H A places-in.signature (places-in.spec 𝓤 H A mem run)
+  abbrev SpansIn : Contract 𝓤
+  SpansIn = tripleOf 𝓤 H A spans-in.signature (spans-in.spec 𝓤 H A mem run)
 
 module _ {M : Type 1} (𝓤 : URA M) (H : Heap 𝓤) (A : Atoms 𝓤) (W : Given 𝓤 H A) (mem : Memory → SProp 𝓤) (run : Routine → Fun 𝓤) (κ : Lft) (q : Share) (d : RefT (List ℕ)) where
   abbrev κs : Lfts 1
@@ -80,19 +80,19 @@ module _ {M : Type 1} (𝓤 : URA M) (H : Heap 𝓤) (A : Atoms 𝓤) (W : Given
   abbrev Left : Val → SProp 𝓤
   Left = walkOf 𝓤 H A f.ended stays (f.clauses 𝓤 H A mem run) .post ((κs, (q, tt), tt, (d, tt), (datagram-val ∷ [], tt)), tt)
 
-  abbrev to-places : PlacesIn 𝓤 H A mem run .Ghost
-  to-places = ((κs, (q, tt), tt, (d, tt), (datagram-val ∷ [], tt)), tt)
+  abbrev to-spans : SpansIn 𝓤 H A mem run .Ghost
+  to-spans = ((κs, (q, tt), tt, (d, tt), (datagram-val ∷ [], tt)), tt)
 
   abbrev Asked : SProp 𝓤
-  Asked = PlacesIn 𝓤 H A mem run .pre to-places
+  Asked = SpansIn 𝓤 H A mem run .pre to-spans
 
-  abbrev Said : Places → SProp 𝓤
-  Said x = ensured 𝓤 H A places-in.ended (places-in.clauses 𝓤 H A mem run) κs (d, tt) tt x
+  abbrev Said : Spans → SProp 𝓤
+  Said x = ensured 𝓤 H A spans-in.ended (spans-in.clauses 𝓤 H A mem run) κs (d, tt) tt x
 
-  abbrev Found : Places → Type 0
-  Found x = x ≡ placesOf (packetOf (now d))
+  abbrev Found : Spans → Type 0
+  Found x = x ≡ spansOf (packetOf (now d))
 
-  -- a reference can be copied: one for `places_in`, one for the viewer, one for the exit
+  -- a reference can be copied: one for `spans_in`, one for the viewer, one for the exit
   asks : ent 𝓤 Entered (sep 𝓤 Asked (sep 𝓤 (sem 𝓤 H A Own) (sem 𝓤 H A Own)))
   asks =
       qed W ((‵ (flft κ q) ⊛ ‵ ftrue) ∷ ‵ (owns (Bytes κs ∷ []) (d, tt) (datagram-val ∷ [], tt)) ∷ []) ∵
@@ -100,43 +100,43 @@ module _ {M : Type 1} (𝓤 : URA M) (H : Heap 𝓤) (A : Atoms 𝓤) (W : Given
       -- [d; d; d; nothing; the token]
       move ! (0 ∷ 3 ∷ []) $ fjoin ! $ move ! (3 ∷ 0 ∷ []) $ join ! $ nothing ! $ move ! (1 ∷ 0 ∷ []) $ join ! $ frame ! $ frame ! $ done !
 
-  heard-of : (x : Places) → ent 𝓤 (Said x) (fact 𝓤 (Found x))
-  heard-of x = exE 𝓤 _ (λ ws. snd∗ 𝓤 (sem 𝓤 H A (lasts places-in.ended κs (d, tt) ws)) (fact 𝓤 (Found x)))
+  heard-of : (x : Spans) → ent 𝓤 (Said x) (fact 𝓤 (Found x))
+  heard-of x = exE 𝓤 _ (λ ws. snd∗ 𝓤 (sem 𝓤 H A (lasts spans-in.ended κs (d, tt) ws)) (fact 𝓤 (Found x)))
 
   -- the viewer that is made of d and x
-  abbrev made : Places → Viewer
+  abbrev made : Spans → Viewer
   made x = record { datagram = d; name = x .name; values = x .values }
 
-  abbrev IsPlace : Place → Type 0
-  IsPlace p = Is place.the-row p (place-val p ∷ [])
+  abbrev IsSpan : Span → Type 0
+  IsSpan p = Is span.the-row p (span-val p ∷ [])
 
-  leaves : (x : Places) → IsPlace (made x .name) → IsPlace (made x .values) → Found x → ent 𝓤 (⋆ 𝓤 H A ((‵ (flft κ q) ⊛ ‵ ftrue) ∷ ‵ Own ∷ ‵ Own ∷ [])) (Left (vstruct (field-vals (made x))))
+  leaves : (x : Spans) → IsSpan (made x .name) → IsSpan (made x .values) → Found x → ent 𝓤 (⋆ 𝓤 H A ((‵ (flft κ q) ⊛ ‵ ftrue) ∷ ‵ Own ∷ ‵ Own ∷ [])) (Left (vstruct (field-vals (made x))))
   leaves x is-name is-values e =
       qed W ((‵ (flft κ q) ⊛ ‵ ftrue) ∷ ‵ Own ∷ ‵ Own ∷ []) ∵
       suffices ! _ (ends-at 𝓤 H A f.ended stays (f.clauses 𝓤 H A mem run) W ((κs, (q, tt), tt, (d, tt), (datagram-val ∷ [], tt)), tt) (vstruct (field-vals (made x))) (made x) (tt, tt) (tt, tt)) $
-      says ! (refl, ap (λ (y : Places). y .name) e, ap (λ (y : Places). y .values) e) $
+      says ! (refl, ap (λ (y : Spans). y .name) e, ap (λ (y : Spans). y .values) e) $
       frame ! $ nothing ! $ move ! (1 ∷ 0 ∷ []) $ fjoin ! $ frame ! $
       -- [d]
-      nothing ! $ owned ! place.the-row (Is place.the-row) (LL.makes place.the-type place-laws.the-plain 𝓤 H A) (made x .values) _ is-values $ fjoin ! $
-      owned ! place.the-row (Is place.the-row) (LL.makes place.the-type place-laws.the-plain 𝓤 H A) (made x .name) _ is-name $ fjoin ! $
+      nothing ! $ owned ! span.the-row (Is span.the-row) (LL.makes span.the-type span-laws.the-plain 𝓤 H A) (made x .values) _ is-values $ fjoin ! $
+      owned ! span.the-row (Is span.the-row) (LL.makes span.the-type span-laws.the-plain 𝓤 H A) (made x .name) _ is-name $ fjoin ! $
       move ! (1 ∷ 0 ∷ []) $ fjoin ! $ by ! (own-shut 𝓤 H A W (declared κs) (laws κs) (d, (made x .name, (made x .values, tt))))
 
-  module _ (C : Calls 𝓤 H) (Λ : Loops 𝓤 H) (fm : FmC 𝓤 H (W .laws) C) (known : Triple 𝓤 (C callee.name) (PlacesIn 𝓤 H A mem run)) where
+  module _ (C : Calls 𝓤 H) (Λ : Loops 𝓤 H) (fm : FmC 𝓤 H (W .laws) C) (known : Triple 𝓤 (C callee.name) (SpansIn 𝓤 H A mem run)) where
     walk : Is (Bytes κs) d (datagram-val ∷ []) → ent 𝓤 Entered (WpFn 𝓤 H C Λ code.function (datagram-val ∷ []) Left)
     walk lent =
         qed W (raw Entered ∷ []) ∵ enter ! C Λ code.function (datagram-val ∷ []) _ $
         alloc1 ! (λ l₀. alloc1 ! (λ l₁. alloc1 ! (λ l₂. alloc0 ! $ params1 ! $ pass1 ! (init ! 2 refl (shr-slice-lawful 𝓤 H A W (named 0) κ u8 .typed d _ lent .0)) $ pass0 ! $
         move ! (6 ∷ []) $ use1 W (raw Asked ⊛ (‵ Own ⊛ ‵ Own)) asks $ split ! $ move ! (1 ∷ []) $ split ! $ move ! (2 ∷ []) $
-        -- [what `places_in` asks; d; d; room for _2; …; _1; …; room for _0; …]
-        calls-at ! fm (PlacesIn 𝓤 H A mem run) known to-places (and-then ! (load ! (from ! (stop !)) (look ! 5 refl)) (no-more !)) (λ u.
-        use1 W (later (some (λ (x : Places). ((‵ (flft κ q) ⊛ ‵ ftrue) ⊛ ‵ (places.the-row .own x (u ∷ []))) ⊛ raw (Said x)))) (id⊢ 𝓤 _) $ await ! tt $ pick ! (λ x.
+        -- [what `spans_in` asks; d; d; room for _2; …; _1; …; room for _0; …]
+        calls-at ! fm (SpansIn 𝓤 H A mem run) known to-spans (and-then ! (load ! (from ! (stop !)) (look ! 5 refl)) (no-more !)) (λ u.
+        use1 W (later (some (λ (x : Spans). ((‵ (flft κ q) ⊛ ‵ ftrue) ⊛ ‵ (spans.the-row .own x (u ∷ []))) ⊛ raw (Said x)))) (id⊢ 𝓤 _) $ await ! tt $ pick ! (λ x.
         split ! $ move ! (1 ∷ []) $ use1 W (raw (fact 𝓤 (Found x))) (heard-of x) $ heard ! (Found x) (λ e. split ! $ move ! (1 ∷ []) $
-        facts ! places.the-row (Is places.the-row) (shows 𝓤 H A places.the-row) x (u ∷ []) (λ is.
-        let same : u ∷ [] ≡ LL.val places.the-type places-laws.the-laws x ∷ [] = LL.tells places.the-type places-laws.the-laws x (u ∷ []) is in
-        let each = LL.owed places.the-type places-laws.the-laws x _ is in
+        facts ! spans.the-row (Is spans.the-row) (shows 𝓤 H A spans.the-row) x (u ∷ []) (λ is.
+        let same : u ∷ [] ≡ LL.val spans.the-type spans-laws.the-laws x ∷ [] = LL.tells spans.the-type spans-laws.the-laws x (u ∷ []) is in
+        let each = LL.owed spans.the-type spans-laws.the-laws x _ is in
         -- [the token; d; d; room for _2; …; _1; …; room for _0; …]
-        land ! (from ! (stop !)) (init ! 3 refl (LL.lawful places.the-type places-laws.the-laws 𝓤 H A W .typed x _ is .0)) $
-        rewrite ! 3 (λ (w : Val). ‵ (fat fullShare places-laws.mir l₂ 0 w)) (ap only same) refl $
+        land ! (from ! (stop !)) (init ! 3 refl (LL.lawful spans.the-type spans-laws.the-laws 𝓤 H A W .typed x _ is .0)) $
+        rewrite ! 3 (λ (w : Val). ‵ (fat fullShare spans-laws.mir l₂ 0 w)) (ap only same) refl $
         assigns ! (agg ! (and-then ! (load ! (from ! (stop !)) (look ! 5 refl))
         (and-then ! (load ! (from ! (fld ! refl (stop !))) (look-in ! 3 (sub ! 0 refl (whole !))))
         (and-then ! (load ! (from ! (fld ! refl (stop !))) (look-in ! 3 (sub ! 1 refl (whole !)))) (no-more !))))) (from ! (stop !))
@@ -145,7 +145,7 @@ module _ {M : Type 1} (𝓤 : URA M) (H : Heap 𝓤) (A : Atoms 𝓤) (W : Given
         move ! (7 ∷ 8 ∷ []) $ free1 ! $ move ! (5 ∷ 6 ∷ []) $ free1 ! $ move ! (3 ∷ 4 ∷ []) $ free1 ! $ free0 ! $ by ! (leaves x (each .0) (each .1 .0) e))))))))
 
 view-meets : {M : Type 1} (𝓤 : URA M) (H : Heap 𝓤) (A : Atoms 𝓤) (W : Given 𝓤 H A) (mem : Memory → SProp 𝓤) (run : Routine → Fun 𝓤) (𝓣 : Tables 𝓤 H)
-    → Triple 𝓤 (𝓣 .C callee.name) (PlacesIn 𝓤 H A mem run)
+    → Triple 𝓤 (𝓣 .C callee.name) (SpansIn 𝓤 H A mem run)
     → Meets 𝓤 H A f.signature (WpFn 𝓤 H (𝓣 .C) (𝓣 .Λ) code.function) (f.spec 𝓤 H A mem run)
 view-meets 𝓤 H A W mem run 𝓣 known =
     walk-meets 𝓤 H A f.ended stays W (goes-none-slice 𝓤 H A W 1 (0 ∷ []) tt (plain (λ _. u8)) yes, tt) (f.clauses 𝓤 H A mem run) (WpFn 𝓤 H (𝓣 .C) (𝓣 .Λ) code.function) (WpFn-mono 𝓤 H (W .laws) 𝓣 code.function)
@@ -158,4 +158,4 @@ view-spec 𝓤 H 𝓜 𝓖 𝓡 =
     entered 𝓤 H (tripleOf 𝓤 H (𝓖 .A) f.signature (f.spec 𝓤 H (𝓖 .A) (𝓜 .mem) (𝓡 .run)))
     (tables 𝓤 H 𝓜 𝓡 code.env .C) (tables 𝓤 H 𝓜 𝓡 code.env .Λ) key.name code.function (code.unfolded 𝓤 H 𝓜 𝓡)
     (view-meets 𝓤 H (𝓖 .A) (givenOf 𝓤 H 𝓜 𝓖) (𝓜 .mem) (𝓡 .run) (tablesOf 𝓤 H 𝓜 (tables 𝓤 H 𝓜 𝓡 code.env))
-    (cited 𝓤 H (PlacesIn 𝓤 H (𝓖 .A) (𝓜 .mem) (𝓡 .run)) 𝓜 𝓡 code.env callee.name callee.routine code.calls-parts·places-in (callee-met.met 𝓤 H 𝓜 𝓖 𝓡)))
+    (cited 𝓤 H (SpansIn 𝓤 H (𝓖 .A) (𝓜 .mem) (𝓡 .run)) 𝓜 𝓡 code.env callee.name callee.routine code.calls-parts·spans-in (callee-met.met 𝓤 H 𝓜 𝓖 𝓡)))

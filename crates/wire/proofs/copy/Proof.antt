@@ -42,10 +42,12 @@ same-length : tie.Need-same-length
 same-length c = search needs
 
 returns-2 : tie.Need-returns-2
-returns-2 c = let a = c .before .before .before .before .before .before .before .before .before .args in
+returns-2 c = let copied = c .before .before in
+    let counted = copied .before .before .before in
+    let a = counted .before .before .before .before .args in
     let b = now (a .buf) in
-    let n = c .before .before .before .before .before .least .result in
-    lent-rest (take (n - 0) (now (a .src))) b (a .at) (c .before .before .copy-run .ensures)
+    let n = counted .least .result in
+    lent-rest (take (n - 0) (now (a .src))) b (a .at) (copied .copy-run .ensures)
     ∙ sets-take (now (a .src)) b (a .at) (n - 0) (omega arith)
 
 pub copy-spec : {M : Type 1} → statement M

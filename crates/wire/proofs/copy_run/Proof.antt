@@ -1,5 +1,5 @@
 use Prim.Native.Nat.{_≤_, _-_}
-use mathlib.Core.Path.{_≡_, refl}
+use mathlib.Core.Path.{_≡_, refl, _∙_}
 use native.Mathlib.Nat.{zero-add}
 use native.Mathlib.Omega.{arith}
 use borrow.Author.Needs.{needs}
@@ -34,15 +34,16 @@ loop-less c = omega arith
 loop-again : tie.Need-loop-again Inv-loop μ-loop
 loop-again c = let l = c .before .before in
     let a = l .before .args in
-    (omega arith, simp length-set (l .loop .inv .1), cc (sets-more (now (a .src)) (now (a .buf)) 0 (l .loop .i) (omega arith), zero-add (l .loop .i)))
+    (omega arith, simp length-set (l .loop .inv .1), rw (sets-more (now (a .src)) (now (a .buf)) 0 (l .loop .i) (omega arith), zero-add (l .loop .i), l .loop .inv .2))
 
 same-length : tie.Need-same-length Inv-loop μ-loop
 same-length c = search needs
 
 returns : tie.Need-returns Inv-loop μ-loop
-returns c = let a = c .before .before .args in
-    let k : length (now (a .src)) ≤ c .before .loop .i = omega arith in
-    cc (take-all (c .before .loop .i) (now (a .src)) k)
+returns c = let l = c .before in
+    let src = now (l .before .args .src) in
+    let k : length src ≤ l .loop .i = omega arith in
+    l .loop .inv .2 ∙ rw (take-all (l .loop .i) src k)
 
 pub copy-run-spec : {M : Type 1} → statement M
 copy-run-spec =

@@ -1,5 +1,5 @@
 use Prim.Native.Nat.{_/_, _%_}
-use mathlib.Core.Path.{sym}
+use mathlib.Core.Path.{sym, _∙_}
 use native.Mathlib.Omega.{arith}
 use borrow.Author.Needs.{needs}
 use denote.Ref.{now}
@@ -31,8 +31,11 @@ same-length : tie.Need-same-length
 same-length c = search needs
 
 returns-2 : tie.Need-returns-2
-returns-2 c = let a = c .before .before .before .before .before .before .before .before .before .before .args in
-    cc (sets-append (be16 (a .v / 0x10000)) (be16 (a .v % 0x10000)) (now (a .buf)) (a .at))
+returns-2 c = let low = c .before .before in
+    let high = low .before .before .before .before in
+    let a = high .before .before .before .before .args in
+    low .put-u162 .ensures
+    ∙ rw (high .put-u16 .ensures) (sym (sets-append (be16 (a .v / 0x10000)) (be16 (a .v % 0x10000)) (now (a .buf)) (a .at)))
 
 pub put-u32-spec : {M : Type 1} → statement M
 put-u32-spec =

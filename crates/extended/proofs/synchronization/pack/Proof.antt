@@ -1,9 +1,12 @@
-use mathlib.Core.Path.{sym}
+use Prim.Native.Nat.{ℕ, _+_}
+use mathlib.Core.List.{List}
+use mathlib.Core.Path.{sym, ap, _∙_}
 use native.Mathlib.Omega.{arith}
 use borrow.Author.Needs.{needs}
 use denote.Ref.{now}
+use lib.Seq.{sets}
 use Rattle.wire.proofs.Laws.{sets-past, sets-append}
-use Rattle.framing.specs.Bytes.{framingHead}
+use Rattle.pdu.specs.Head.{layerHead}
 use Rattle.extended.specs.Bytes.{syncFieldBytes, synchronizationFramingBytes}
 use Rattle.extended.proofs.synchronization.pack.Statement.{statement}
 use Rattle.extended.proofs.synchronization.pack.Tie as tie
@@ -38,8 +41,15 @@ same-length c = search needs
 
 returns-2 : tie.Need-returns-2
 unfolding synchronizationFramingBytes
-returns-2 c = let a = c .before .before .before .before .before .before .before .before .before .before .before .before .before .args in
-    cc (sets-append (framingHead 11 1) (syncFieldBytes (a .fields)) (now (a .buf)) (a .at))
+returns-2 c =
+    let copied = c .before .before in
+    let bytes = copied .before .before in
+    let headed = bytes .before .before .before .before .before in
+    let a = headed .before .before .before .before .args in
+    let f = syncFieldBytes (a .fields) in
+    copied .copy .ensures
+    ∙ ap (λ (b : List ℕ). sets b (a .at + 6) f) (headed .put-head .ensures)
+    ∙ sym (sets-append (layerHead 11 1) f (now (a .buf)) (a .at))
 
 pub pack-spec : {M : Type 1} → statement M
 pack-spec =

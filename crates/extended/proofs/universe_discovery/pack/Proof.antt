@@ -1,5 +1,5 @@
 use Prim.Native.Nat.{ℕ, _+_, _*_}
-use mathlib.Core.Path.{_≡_, refl, sym, ap, _∙_}
+use mathlib.Core.Path.{_≡_, refl, sym}
 use mathlib.Core.List.{List}
 use native.Mathlib.Omega.{arith}
 use borrow.Author.Needs.{needs}
@@ -11,8 +11,9 @@ use Rattle.wire.proofs.Laws.{sets-past}
 use Rattle.name.specs.Name.{nameBytes}
 use Rattle.name.proofs.Laws.{bytes-64}
 use Rattle.discovery.specs.Layer.{discoveryBytes}
-use Rattle.framing.specs.Bytes.{framingHead}
-use Rattle.framing.proofs.Laws.{four-segments}
+use Rattle.discovery.specs.declared.DiscoveryFields.{DiscoveryFields}
+use Rattle.pdu.specs.Head.{layerHead}
+use Rattle.pdu.proofs.Segments.{four-segments}
 use Rattle.extended.specs.Bytes.{discoveryFramingBytes}
 use Rattle.extended.proofs.universe_discovery.pack.Statement.{statement}
 use Rattle.extended.proofs.universe_discovery.pack.Tie as tie
@@ -51,23 +52,28 @@ pack-requires c κs = search needs
 same-length : tie.Need-same-length
 same-length c = search needs
 
-returns-2 : tie.Need-returns-2
+-- the four runs of the layer, each written into what the one before it left
+written : (l headed named reserved packed : List ℕ) (at : ℕ) (f : DiscoveryFields) (name us : List ℕ) →
+    headed ≡ sets l at (layerHead (82 + 2 * length us) 2) →
+    named ≡ sets headed (at + 6) (nameBytes name) →
+    reserved ≡ sets named (at + 70) (be32 0) →
+    packed ≡ sets reserved (at + 74) (discoveryBytes f us) →
+    packed ≡ sets l at (discoveryFramingBytes f name us)
 unfolding discoveryFramingBytes
-returns-2 c = let a = c .before .before .before .before .before .before .before .before .before .before .before .before .before .before .before .before .before .before .before .before .args in
-    let n = nameBytes (now (a .name)) in
-    let us = now (a .universes) in
-    let h = framingHead (82 + 2 * length us) 2 in
-    let z = be32 0 in
-    let d = discoveryBytes (a .fields) us in
-    let e : a .at + 74 ≡ a .at + 70 + 4 = omega arith in
-    c .before .before .pack .ensures
-    ∙ ap (λ (b : List ℕ). sets b (a .at + 74) d) (c .before .before .before .before .before .before .put-u32 .ensures)
-    ∙ ap (λ (b : List ℕ). sets (sets b (a .at + 70) z) (a .at + 74) d)
-    (c .before .before .before .before .before .before .before .before .before .before .pack-source-name .ensures)
-    ∙ ap (λ (b : List ℕ). sets (sets (sets b (a .at + 6) n) (a .at + 70) z) (a .at + 74) d)
-    (c .before .before .before .before .before .before .before .before .before .before .before .before .before .before .put-head .ensures)
-    ∙ ap (λ (k : ℕ). sets (sets (sets (sets (now (a .buf)) (a .at) h) (a .at + 6) n) (a .at + 70) z) k d) e
-    ∙ sym (four-segments (now (a .buf)) (a .at) h n z d 4 refl (bytes-64 (now (a .name))) refl)
+written l headed named reserved packed at f name us p q r s =
+    let e : at + 70 + 4 ≡ at + 74 = omega arith in
+    cc (four-segments l at (layerHead (82 + 2 * length us) 2) (nameBytes name) (be32 0) (discoveryBytes f us) 4 refl (bytes-64 name) refl)
+
+returns-2 : tie.Need-returns-2
+returns-2 c =
+    let packed = c .before .before in
+    let reserved = packed .before .before .before .before in
+    let named = reserved .before .before .before .before in
+    let headed = named .before .before .before .before in
+    let fits = headed .before .before in
+    let a = fits .before .before .before .before .args in
+    written (now (a .buf)) _ _ _ _ (a .at) (a .fields) (now (a .name)) (now (a .universes)) (headed .put-head .ensures) (named .pack-source-name .ensures)
+    (reserved .put-u32 .ensures) (packed .pack .ensures)
 
 pub pack-spec : {M : Type 1} → statement M
 pack-spec =

@@ -1,6 +1,6 @@
 use Prim.Native.Nat.{ℕ}
 use mathlib.Core.List.{List}
-use mathlib.Core.Path.{_≡_, refl, sym, _∙_}
+use mathlib.Core.Path.{_≡_, refl, sym, ap, _∙_}
 use native.Mathlib.Omega.{arith}
 use borrow.Author.Needs.{needs}
 use Rattle.refusal.specs.Check.{reading}
@@ -12,7 +12,7 @@ use Rattle.pdu.specs.Head.{lengthOf}
 use Rattle.discovery.specs.Layer.{discoveryOf, discoveryChecks, layerOf as pageOf}
 use Rattle.discovery.specs.declared.Discovery.{Discovery}
 use Rattle.discovery.specs.declared.Discovery.the-variants as discovery
-use Rattle.framing.specs.Data.{nameField}
+use Rattle.name.specs.Name.{nameField}
 use Rattle.extended.specs.UniverseDiscovery.{startChecks, discoveryFramingOf, discoveryPart, layerNamed}
 use Rattle.extended.specs.declared.«universe_discovery».DiscoveryFraming.{DiscoveryFraming}
 use Rattle.extended.specs.declared.«universe_discovery».DiscoveryFraming.the-variants.{Layer, Refused}
@@ -43,14 +43,14 @@ new-requires c κs = search needs
 
 returns : tie.Need-returns
 unfolding discoveryFramingOf
-returns c = stop 0 _ _ _ (omega arith) (cc)
+returns c = stop 0 _ _ _ (omega arith) (ap Refused (c .new .ensures))
 
 new-requires-2 : tie.Need-new-requires-2
 new-requires-2 c κs = search needs
 
 returns-2 : tie.Need-returns-2
 unfolding discoveryFramingOf
-returns-2 c = stop 1 _ _ _ (omega arith) (cc)
+returns-2 c = stop 1 _ _ _ (omega arith) (ap Refused (c .new2 .ensures))
 
 sub-field : tie.Need-sub-field
 sub-field c = search needs
@@ -68,7 +68,11 @@ enum-known-r : tie.Need-enum-known-r
 enum-known-r c = search needs
 
 returns-3 : tie.Need-returns-3
-returns-3 c = pass _ _ _ (omega arith) (by-answer (after-name _) (sourceNameOf _) (source.Refused _) (cc) refl) ∙ sym (by-name _ _)
+returns-3 c =
+    let named = c .before in
+    pass _ _ _ (omega arith)
+    (by-answer (after-name _) (sourceNameOf _) (source.Refused _) (sym (named .before .before .parse-source-name-str .ensures) ∙ named .r .given .1) refl)
+    ∙ sym (by-name _ _)
 
 enum-known-len : tie.Need-enum-known-len
 enum-known-len c = search needs
@@ -92,14 +96,25 @@ enum-known-fields : tie.Need-enum-known-fields
 enum-known-fields c = search needs
 
 returns-4 : tie.Need-returns-4
-returns-4 c = let n = c .before .before .before .before .before .before .len .given .0 .0 in
+returns-4 c =
+    let known = c .before in
+    let read = known .before .before in
+    let named = read .before .before .before in
+    let n = named .len .given .0 .0 in
     pass _ _ _ (omega arith)
-    (by-answer (after-name _) (sourceNameOf _) (source.Text n) (cc) (by-answer (after-list n) (discoveryOf _) (discovery.Refused _) (cc) refl))
+    (by-answer (after-name _) (sourceNameOf _) (source.Text n) (sym (named .before .before .parse-source-name-str .ensures) ∙ named .len .given .1)
+    (by-answer (after-list n) (discoveryOf _) (discovery.Refused _) (sym (read .parse .ensures) ∙ known .r2 .given .1) refl))
     ∙ sym (by-name _ _)
 
 returns-5 : tie.Need-returns-5
-returns-5 c = pass _ _ _ (omega arith)
-    (by-answer (after-name _) (sourceNameOf _) (source.Text _) (cc) (by-answer (after-list _) (discoveryOf _) (discovery.Universes _ _) (cc) refl))
+returns-5 c =
+    let known = c .before in
+    let read = known .before .before in
+    let named = read .before .before .before in
+    let n = named .len .given .0 .0 in
+    pass _ _ _ (omega arith)
+    (by-answer (after-name _) (sourceNameOf _) (source.Text n) (sym (named .before .before .parse-source-name-str .ensures) ∙ named .len .given .1)
+    (by-answer (after-list n) (discoveryOf _) (discovery.Universes _ _) (sym (read .parse .ensures) ∙ known .fields .given .1) refl))
     ∙ sym (by-name _ _)
 
 pub parse-spec : {M : Type 1} → statement M

@@ -18,7 +18,7 @@ returns c = chosen _ _ _ (omega arith) refl
 
 returns-2 : tie.Need-returns-2
 unfolding trailed
-returns-2 c = passed-over _ _ _ (omega arith) (cc)
+returns-2 c = passed-over _ _ _ (omega arith) (c .trail .ensures)
 
 pub after-trail-spec : {M : Type 1} → statement M
 after-trail-spec = tie.close (tie.spec sub-trail trail-requires returns returns-2)

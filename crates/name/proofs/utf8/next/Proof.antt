@@ -27,10 +27,10 @@ enum-told-2 : tie.Need-enum-told-2
 enum-told-2 c = search needs
 
 returns-3 : tie.Need-returns-3
-returns-3 c = cc
+returns-3 c = rw (c .before .enum-told .given .1) (c .lead .ensures)
 
 returns-4 : tie.Need-returns-4
-returns-4 c = rw (c .before .before .before .before .expect .given .1) (chosen _ _ _ (omega arith) (cc))
+returns-4 c = rw (c .before .before .before .before .expect .given .1) (chosen _ _ _ (omega arith) (c .after-trail .ensures))
 
 returns-5 : tie.Need-returns-5
 returns-5 c = search needs

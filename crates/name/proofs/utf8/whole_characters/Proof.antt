@@ -1,5 +1,5 @@
 use Prim.Native.Nat.{_≤_, _-_}
-use mathlib.Core.Path.{_≡_, refl}
+use mathlib.Core.Path.{_≡_, refl, sym, _∙_}
 use native.Mathlib.Omega.{arith}
 use borrow.Author.Needs.{needs}
 use denote.Ref.{now}
@@ -37,12 +37,16 @@ loop-less c = omega arith
 loop-again : tie.Need-loop-again Inv-loop μ-loop
 loop-again c =
     let l = c .before .before .before .before in
-    (omega arith, cc (reach-more (now (l .before .before .args .s)) (l .loop .i) (l .loop .expect) (l .loop .whole) (omega arith)))
+    let s = now (l .before .before .args .s) in (
+      omega arith,
+      rw (c .mark .ensures, c .before .next .ensures)
+          (reach-more s (l .loop .i) (l .loop .expect) (l .loop .whole) (omega arith) ∙ l .loop .inv .1),
+    )
 
 returns : tie.Need-returns Inv-loop μ-loop
 returns c =
     let l = c .before in
-    cc (reach-end (now (l .before .before .args .s)) (l .loop .i) (l .loop .expect) (l .loop .whole) (omega arith))
+    sym (reach-end (now (l .before .before .args .s)) (l .loop .i) (l .loop .expect) (l .loop .whole) (omega arith)) ∙ l .loop .inv .1
 
 pub whole-characters-spec : {M : Type 1} → statement M
 whole-characters-spec =

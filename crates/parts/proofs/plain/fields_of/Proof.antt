@@ -15,16 +15,16 @@ enum-known-packet-4 : tie.Need-enum-known-packet-4
 enum-known-packet-4 c = search needs
 
 returns : tie.Need-returns
-returns c = cc
+returns c = rw (c .before .before .packet .given .1)
 
 returns-2 : tie.Need-returns-2
-returns-2 c = cc
+returns-2 c = rw (c .before .before .packet2 .given .1)
 
 returns-3 : tie.Need-returns-3
-returns-3 c = cc
+returns-3 c = rw (c .before .before .packet3 .given .1)
 
 returns-4 : tie.Need-returns-4
-returns-4 c = cc
+returns-4 c = rw (c .before .packet4 .given .1)
 
 pub fields-of-spec : {M : Type 1} → statement M
 fields-of-spec =

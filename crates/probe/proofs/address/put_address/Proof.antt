@@ -1,9 +1,6 @@
-use mathlib.Core.Path.{refl, sym}
+use mathlib.Core.Path.{sym, ap, _∙_}
 use borrow.Author.Needs.{needs}
 use Rattle.text.proofs.Puts.{put-as}
-use Rattle.refusal.proofs.Laws.{by-answer}
-use Rattle.universe.specs.Universe.{multicastOf}
-use Rattle.universe.specs.declared.Multicast.the-variants.{Address, Refused}
 use Rattle.probe.specs.Answers.{addressAnswer}
 use Rattle.probe.proofs.address.put_address.Statement.{statement}
 use Rattle.probe.proofs.address.put_address.Tie as tie
@@ -27,13 +24,21 @@ same-length : tie.Need-same-length
 same-length c = search needs
 
 returns : tie.Need-returns
-returns c = put-as (c .before .before .put-refused .ensures) (sym (by-answer (addressAnswer _) (multicastOf _) (Refused (c .before .before .before .before .before .r .given .0 .0)) (cc) refl))
+returns c =
+    let put = c .before .before in
+    let known = put .before .before .before in
+    let asked = known .before .before in
+    put-as (put .put-refused .ensures) (ap (addressAnswer _) (sym (asked .universe-to-ipv4-multicast-addr .ensures) ∙ known .r .given .1))
 
 same-length-2 : tie.Need-same-length-2
 same-length-2 c = search needs
 
 returns-2 : tie.Need-returns-2
-returns-2 c = put-as (c .before .before .put-found .ensures) (sym (by-answer (addressAnswer _) (multicastOf _) (Address (c .before .before .before .before .before .address .given .0 .0)) (cc) refl))
+returns-2 c =
+    let put = c .before .before in
+    let known = put .before .before .before in
+    let asked = known .before .before in
+    put-as (put .put-found .ensures) (ap (addressAnswer _) (sym (asked .universe-to-ipv4-multicast-addr .ensures) ∙ known .address .given .1))
 
 pub put-address-spec : {M : Type 1} → statement M
 put-address-spec =

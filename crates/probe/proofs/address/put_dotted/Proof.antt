@@ -1,6 +1,5 @@
-use mathlib.Core.List.{append-assoc, append-nil}
 use borrow.Author.Needs.{needs}
-use Rattle.text.proofs.Puts.{put-then, put-as}
+use Rattle.text.proofs.Puts.{put-then, put-last}
 use Rattle.probe.specs.Answers.{dotted}
 use Rattle.probe.proofs.address.put_dotted.Statement.{statement}
 use Rattle.probe.proofs.address.put_dotted.Tie as tie
@@ -46,7 +45,13 @@ same-length c = search needs
 
 returns : tie.Need-returns
 unfolding dotted
-returns c = put-as (put-then (c .before .before .before .before .before .before .before .before .before .before .before .before .before .before .before .before .before .before .before .before .put-field .ensures) (put-then (c .before .before .before .before .before .before .before .before .before .before .before .before .before .before .put-field2 .ensures) (put-then (c .before .before .before .before .before .before .before .before .put-field3 .ensures) (c .before .before .put-field4 .ensures)))) (simp (append-assoc, append-nil))
+returns c =
+    let lowest = c .before .before in
+    let third = lowest .before .before .before .before .before .before in
+    let second = third .before .before .before .before .before .before in
+    let highest = second .before .before .before .before .before .before in
+    put-then (highest .put-field .ensures)
+    (put-then (second .put-field2 .ensures) (put-then (third .put-field3 .ensures) (put-last (lowest .put-field4 .ensures))))
 
 pub put-dotted-spec : {M : Type 1} → statement M
 put-dotted-spec =

@@ -1,6 +1,5 @@
-use mathlib.Core.List.{append-assoc, append-nil}
 use borrow.Author.Needs.{needs}
-use Rattle.text.proofs.Puts.{put-then, put-as}
+use Rattle.text.proofs.Puts.{put-then, put-last}
 use Rattle.probe.specs.Answers.{addressLine}
 use Rattle.probe.proofs.address.put_found.Statement.{statement}
 use Rattle.probe.proofs.address.put_found.Tie as tie
@@ -31,7 +30,13 @@ same-length c = search needs
 
 returns : tie.Need-returns
 unfolding addressLine
-returns c = put-as (put-then (c .before .before .before .before .before .before .before .before .before .before .before .before .before .before .before .before .before .put-decimal .ensures) (put-then (c .before .before .before .before .before .before .before .before .before .before .before .before .before .put-dotted .ensures) (put-then (c .before .before .before .before .before .before .before .put-field .ensures) (c .before .before .put .ensures)))) (simp (append-assoc, append-nil))
+returns c =
+    let ended = c .before .before in
+    let port = ended .before .before .before .before .before in
+    let address = port .before .before .before .before .before .before in
+    let number = address .before .before .before .before in
+    put-then (number .put-decimal .ensures)
+    (put-then (address .put-dotted .ensures) (put-then (port .put-field .ensures) (put-last (ended .put .ensures))))
 
 pub put-found-spec : {M : Type 1} → statement M
 put-found-spec =

@@ -1,6 +1,6 @@
-use mathlib.Core.List.{append-assoc, append-nil}
+use mathlib.Core.List.{append-assoc}
 use borrow.Author.Needs.{needs}
-use Rattle.text.proofs.Puts.{put-then, put-as}
+use Rattle.text.proofs.Puts.{put-then, put-last, put-as}
 use Rattle.probe.specs.Answers.{dataAnswer}
 use Rattle.probe.proofs.read.put_data.Statement.{statement}
 use Rattle.probe.proofs.read.put_data.Tie as tie
@@ -46,7 +46,17 @@ same-length c = search needs
 
 returns : tie.Need-returns
 unfolding dataAnswer
-returns c = put-as (put-then (c .before .before .before .before .before .before .before .before .before .before .before .before .before .before .before .before .before .before .before .before .before .before .before .put-named .ensures) (put-then (c .before .before .before .before .before .before .before .before .before .before .before .before .before .before .before .before .before .put-bytes .ensures) (put-then (c .before .before .before .before .before .before .before .before .before .before .before .before .before .put-data-fields .ensures) (put-then (c .before .before .before .before .before .before .before .put-bytes2 .ensures) (c .before .before .put .ensures))))) (rw (← c .before .before .before .before .before .before .before .before .before .before .before .before .before .before .before .before .before .before .name .ensures, ← c .before .before .before .before .before .before .before .before .values .ensures) (simp (append-assoc, append-nil)))
+returns c =
+    let ended = c .before .before in
+    let values = ended .before .before .before .before .before in
+    let fields = values .before .before .before .before .before .before in
+    let name = fields .before .before .before .before in
+    let cid = name .before .before .before .before .before .before in
+    put-as
+    (put-then (cid .put-named .ensures)
+    (put-then (name .put-bytes .ensures)
+    (put-then (fields .put-data-fields .ensures) (put-then (values .put-bytes2 .ensures) (put-last (ended .put .ensures))))))
+    (rw (← name .before .name .ensures, ← values .before .values .ensures) (simp append-assoc))
 
 pub put-data-spec : {M : Type 1} → statement M
 put-data-spec =

@@ -1,6 +1,6 @@
-use mathlib.Core.List.{append-assoc, append-nil}
+use mathlib.Core.List.{append-assoc}
 use borrow.Author.Needs.{needs}
-use Rattle.text.proofs.Puts.{put-then, put-as}
+use Rattle.text.proofs.Puts.{put-then, put-last, put-as}
 use Rattle.probe.specs.Answers.{synchronizationAnswer}
 use Rattle.probe.proofs.read.put_synchronization.Statement.{statement}
 use Rattle.probe.proofs.read.put_synchronization.Tie as tie
@@ -28,7 +28,13 @@ same-length c = search needs
 
 returns : tie.Need-returns
 unfolding synchronizationAnswer
-returns c = put-as (put-then (c .before .before .before .before .before .before .before .before .before .before .before .put-named .ensures) (put-then (c .before .before .before .before .before .before .before .put-synchronization-fields .ensures) (c .before .before .put .ensures))) (simp (append-assoc, append-nil))
+returns c =
+    let ended = c .before .before in
+    let fields = ended .before .before .before .before .before in
+    let cid = fields .before .before .before .before in
+    put-as
+    (put-then (cid .put-named .ensures) (put-then (fields .put-synchronization-fields .ensures) (put-last (ended .put .ensures))))
+    (simp append-assoc)
 
 pub put-synchronization-spec : {M : Type 1} → statement M
 put-synchronization-spec =

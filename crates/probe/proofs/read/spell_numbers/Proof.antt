@@ -1,5 +1,5 @@
 use Prim.Native.Nat.{_≤_, _-_, _*_}
-use mathlib.Core.Path.{_≡_, refl}
+use mathlib.Core.Path.{_≡_, refl, _∙_}
 use native.Mathlib.Omega.{arith}
 use native.Mathlib.Nat.{zero-add}
 use borrow.Author.Needs.{needs}
@@ -28,8 +28,10 @@ same-length : tie.Need-same-length Inv-loop μ-loop
 same-length c = omega arith
 
 returns : tie.Need-returns Inv-loop μ-loop
-returns c = let k : c .before .before .loop .i ≡ c .before .before .before .before .before .args .count = omega arith in
-    (omega arith, cc)
+returns c =
+    let turn = c .before .before in
+    let k : turn .loop .i ≡ turn .before .before .before .args .count = omega arith in
+    (omega arith, rw (← k) (turn .loop .inv .3))
 
 mul-put-u16 : tie.Need-mul-put-u16 Inv-loop μ-loop
 mul-put-u16 c = omega arith
@@ -50,9 +52,16 @@ loop-less : tie.Need-loop-less Inv-loop μ-loop
 loop-less c = omega arith
 
 loop-again : tie.Need-loop-again Inv-loop μ-loop
-loop-again c = let l = c .before .before .before .before .before .before .before .loop in
-    let a = c .before .before .before .before .before .before .before .before .before .before .args in
-    (omega arith, omega arith, omega arith, cc (bytes-more (now (a .numbers)) (now (a .bytes)) 0 (l .i) (omega arith), zero-add (2 * l .i)))
+loop-again c =
+    let put = c .before .before in
+    let turn = put .before .before .before .before .before in
+    let l = turn .loop in
+    let a = turn .before .before .before .args in (
+      omega arith,
+      omega arith,
+      omega arith,
+      put .put-u16 .ensures ∙ rw (l .inv .3, bytes-more (now (a .numbers)) (now (a .bytes)) 0 (l .i) (omega arith), zero-add (2 * l .i)),
+    )
 
 mul-result-2 : tie.Need-mul-result-2 Inv-loop μ-loop
 mul-result-2 c = omega arith
@@ -61,12 +70,14 @@ same-length-2 : tie.Need-same-length-2 Inv-loop μ-loop
 same-length-2 c = omega arith
 
 returns-2 : tie.Need-returns-2 Inv-loop μ-loop
-returns-2 c = let a = c .before .before .before .before .args in
-    let i = c .before .loop .i in
+returns-2 c =
+    let turn = c .before in
+    let a = turn .before .before .before .args in
+    let i = turn .loop .i in
     let s = now (a .numbers) in
     let h : length s ≤ i = omega arith in
     let k : length s ≤ a .count = omega arith in
-    (omega arith, cc (take-all i s h, take-all (a .count) s k))
+    (omega arith, turn .loop .inv .3 ∙ rw (take-all i s h, take-all (a .count) s k))
 
 pub spell-numbers-spec : {M : Type 1} → statement M
 spell-numbers-spec =

@@ -1,0 +1,28 @@
+use borrow.Author.Needs.{needs}
+use Rattle.c_answers.proofs.data_found.Statement.{statement}
+use Rattle.c_answers.proofs.data_found.Tie as tie
+
+no-refusal-requires : tie.Need-no-refusal-requires
+no-refusal-requires c κs = search needs
+
+no-synchronization-requires : tie.Need-no-synchronization-requires
+no-synchronization-requires c κs = search needs
+
+no-discovery-requires : tie.Need-no-discovery-requires
+no-discovery-requires c κs = search needs
+
+no-span-requires : tie.Need-no-span-requires
+no-span-requires c κs = search needs
+
+returns : tie.Need-returns
+returns c = cc
+
+pub data-found-spec : {M : Type 1} → statement M
+data-found-spec =
+    tie.close
+    (tie.spec
+    no-refusal-requires
+    no-synchronization-requires
+    no-discovery-requires
+    no-span-requires
+    returns)
