@@ -12,7 +12,7 @@ cases = []
 def u16(n): return struct.pack(">H", n)
 def u32(n): return struct.pack(">I", n)
 def flags(n, top=0x7000): return u16(top + n)
-def field(name): return name + bytes(64 - len(name))
+def field(name, rubbish=b"\0"): return name + b"\0" + rubbish * (63 - len(name))
 
 def root(frame, vector, length=None, top=0x7000, behind=b""):
     n = 22 + len(frame) if length is None else length
@@ -53,6 +53,16 @@ def read_sync(address=8000): return f"sync cid {CID.hex()} seq 7 addr {address}"
 def read_disc(universes=(1, 2), name="464f48", page=0, last=0): return f"disc cid {CID.hex()} name {name} page {page} last {last} universes {spelled(b''.join(u16(u) for u in universes))}"
 def case(words, datagram, expected): cases.append((words, datagram, expected))
 
+# Names that are not UTF-8, and how many of their bytes are good.
+MALFORMED = [
+    ("a character whose second byte is none", b"\xc3\x28", 0),
+    ("a character cut by the end", b"\x61\xc3", 1),
+    ("a surrogate", b"\x61\x62\xed\xa0\x80", 2),
+    ("a byte that begins none", b"\xe2\x82\xac\xc0", 3),
+    ("three bytes of four", b"\xf0\x9f\x92", 0),
+    ("62 bytes and then ff", b"n" * 62 + b"\xff", 62),
+]
+
 good = data()
 case("preamble below 16 bytes", PREAMBLE[:15], refused(1, 1))
 case("preamble of 16 bytes", PREAMBLE, refused(1, 2))
@@ -83,9 +93,13 @@ case("name field cut", short(69), refused(13, 3))
 case("name with no zero in its 64", data(name=b"n" * 64), refused(6, 3))
 case("name of 63 bytes", data(name=field(b"n" * 63)), read_data(name="6e" * 63))
 case("name empty", data(name=bytes(64)), read_data(name="-"))
-case("name not UTF-8", data(name=field(b"\xc3")), refused(7, 3))
+for words, name, whole in MALFORMED:
+    case(f"name: {words}", data(name=field(name)), refused(7, 3, whole))
+    # A reader that left the zero out would go on with 80, and not with ff. A name of 63 bytes has nothing behind its zero.
+    for rubbish in [b"\x80", b"\xff"] if len(name) < 63 else []:
+        case(f"name: {words}, {rubbish.hex()} after the zero", data(name=field(name, rubbish)), refused(7, 3, whole))
 case("name UTF-8", data(name=field(b"\xc3\xa9")), read_data(name="c3a9"))
-case("rubbish after the name's zero", data(name=b"n\0" + b"\xff" * 62), read_data(name="6e"))
+case("rubbish after the name's zero", data(name=field(b"n", b"\xff")), read_data(name="6e"))
 case("priority missing", short(70), refused(13, 3))
 case("priority 200", data(prio=200), read_data(prio=200))
 case("priority 201", data(prio=201), refused(8, 3, 201))
@@ -141,7 +155,8 @@ case("discovery framing length 81", disc(layer(()), length=81), refused(5, 3, 81
 case("discovery framing length 82", disc(layer(())), read_disc(()))
 case("discovery name with no zero", disc(name=b"n" * 64), refused(6, 3))
 case("discovery name of 63 bytes", disc(name=field(b"n" * 63)), read_disc(name="6e" * 63))
-case("discovery name not UTF-8", disc(name=field(b"\x80")), refused(7, 3))
+for words, name, whole in MALFORMED:
+    case(f"discovery name: {words}", disc(name=field(name)), refused(7, 3, whole))
 case("discovery layer flags 0x60", disc(layer(top=0x6000)), refused(3, 5, 0x60))
 case("discovery layer length one above its part", disc(layer(length=13)), refused(1, 5))
 case("discovery layer length one below its part", disc(layer(length=11)), refused(1, 5))

@@ -4,7 +4,7 @@ use std::error::Error;
 use std::fmt::{self, Display, Formatter};
 
 /// Why a datagram is not read, or a packet not written: which check failed, in which layer, and the
-/// value that failed it.
+/// value that it tells.
 ///
 /// ```
 /// use ledgerwren::{parse, Check, Layer};
@@ -34,7 +34,8 @@ impl Refusal {
         self.place
     }
 
-    /// The value that failed the check, 0 where the check has none.
+    /// What the check tells, mostly the value that failed it; 0 where it tells none. [`Check`] says
+    /// for each what its value is.
     pub fn value(&self) -> u32 {
         self.value
     }
@@ -62,16 +63,43 @@ impl Refusal {
 
 impl Display for Refusal {
     /// The check in words and its number, the layer, and the value where the check has one.
+    ///
+    /// ```
+    /// use ledgerwren::{pack_data, parse, DataPacket};
+    ///
+    /// let packet = DataPacket {
+    ///     source_name: "FOH é",
+    ///     priority: 100,
+    ///     synchronization_address: 0,
+    ///     sequence_number: 1,
+    ///     preview_data: false,
+    ///     stream_terminated: false,
+    ///     force_synchronization: false,
+    ///     universe: 1,
+    ///     property_values: &[0],
+    /// };
+    /// let mut datagram = [0; 126];
+    /// pack_data(&mut datagram, [7; 16], &packet)?;
+    /// // The name begins at byte 44, and the second byte of its é is lost.
+    /// datagram[49] = b' ';
+    /// assert_eq!(
+    ///     parse(&datagram).unwrap_err().to_string(),
+    ///     "the name is not UTF-8 (7) in the framing layer: 4 bytes are good"
+    /// );
+    /// # Ok::<(), ledgerwren::Refusal>(())
+    /// ```
     fn fmt(&self, f: &mut Formatter<'_>) -> fmt::Result {
-        let check = self.check();
-        write!(f, "{check} ({})", self.number)?;
+        let row = row(self.number);
+        write!(f, "{} ({})", row.words, self.number)?;
         if let Some(layer) = self.layer() {
             write!(f, " in the {layer}")?;
         }
-        if check.has_value() {
-            write!(f, ": {}", self.value)?;
+        match (row.value, self.value) {
+            (Value::Nothing, _) => Ok(()),
+            (Value::Number, value) => write!(f, ": {value}"),
+            (Value::GoodBytes, 1) => f.write_str(": 1 byte is good"),
+            (Value::GoodBytes, count) => write!(f, ": {count} bytes are good"),
         }
-        Ok(())
     }
 }
 
@@ -96,7 +124,7 @@ pub enum Check {
     InvalidLength = 5,
     /// The name's field has no zero.
     NameNotTerminated = 6,
-    /// The name is not UTF-8.
+    /// The name is not UTF-8. Its value: how many bytes at the name's front make whole characters.
     NameNotUtf8 = 7,
     /// The priority is above 200. Its value: the priority.
     InvalidPriority = 8,
@@ -116,7 +144,8 @@ pub enum Check {
     NameTooLong = 21,
     /// At writing: the name has a zero.
     NameHasZero = 22,
-    /// At writing: the name is not UTF-8. A `str` always is.
+    /// At writing: the name is not UTF-8. A `str` always is. Its value: as for
+    /// [`NameNotUtf8`](Check::NameNotUtf8).
     WrittenNameNotUtf8 = 23,
     /// At writing: there are more than 513 values or 512 universes.
     TooMany = 24,
@@ -130,46 +159,70 @@ pub enum Check {
     NoUniversesCopied = 31,
 }
 
-/// All checks and the words for them.
-const CHECKS: [(Check, &str); 22] = {
-    use Check::*;
-    [
-        (
-            InsufficientData,
-            "the bytes are too few, or a length disagrees with them",
-        ),
-        (InvalidData, "a field has a value that is not allowed"),
-        (InvalidFlags, "the flags are not 0x70"),
-        (InvalidVector, "the vector is none of the layer's"),
-        (InvalidLength, "the length is not allowed"),
-        (NameNotTerminated, "the name has no zero behind it"),
-        (NameNotUtf8, "the name is not UTF-8"),
-        (InvalidPriority, "the priority is above 200"),
-        (
-            InvalidSyncAddress,
-            "the synchronization address is out of range",
-        ),
-        (InvalidUniverse, "the universe is out of range"),
-        (InvalidPage, "the page is above the last page"),
-        (
-            InvalidUniverseOrder,
-            "the universes are not strictly ascending",
-        ),
-        (MissingField, "the layer is too short for its fields"),
-        (BufferTooSmall, "the buffer is shorter than the packet"),
-        (NameTooLong, "the name has more than 63 bytes"),
-        (NameHasZero, "the name has a zero in it"),
-        (WrittenNameNotUtf8, "the name to be written is not UTF-8"),
-        (TooMany, "there are more than 513 values or 512 universes"),
-        (EqualUniverses, "two neighbouring universes are equal"),
-        (FallingUniverses, "a universe is below the one before it"),
-        (NoMulticastAddress, "the universe has no multicast address"),
-        (
-            NoUniversesCopied,
-            "there is no readable list of universes, or no room for it",
-        ),
-    ]
-};
+/// What a refusal's value is.
+#[derive(Clone, Copy, PartialEq, Eq, Debug)]
+enum Value {
+    /// None: it is always 0.
+    Nothing,
+    /// The number that failed the check, or whatever a check that is not known here tells.
+    Number,
+    /// How many bytes at the name's front make whole characters.
+    GoodBytes,
+}
+
+/// A check, what its refusal's value is, and the words for it.
+struct Row {
+    check: Check,
+    value: Value,
+    words: &'static str,
+}
+
+const fn tells(check: Check, value: Value, words: &'static str) -> Row {
+    Row {
+        check,
+        value,
+        words,
+    }
+}
+
+/// All checks, a line each. The test `header` holds to the definitions which of them have a value.
+#[rustfmt::skip]
+static CHECKS: [Row; 22] = [
+    tells(Check::InsufficientData, Value::Nothing, "the bytes are too few, or a length disagrees with them"),
+    tells(Check::InvalidData, Value::Nothing, "a field has a value that is not allowed"),
+    tells(Check::InvalidFlags, Value::Number, "the flags are not 0x70"),
+    tells(Check::InvalidVector, Value::Number, "the vector is none of the layer's"),
+    tells(Check::InvalidLength, Value::Number, "the length is not allowed"),
+    tells(Check::NameNotTerminated, Value::Nothing, "the name has no zero behind it"),
+    tells(Check::NameNotUtf8, Value::GoodBytes, "the name is not UTF-8"),
+    tells(Check::InvalidPriority, Value::Number, "the priority is above 200"),
+    tells(Check::InvalidSyncAddress, Value::Number, "the synchronization address is out of range"),
+    tells(Check::InvalidUniverse, Value::Number, "the universe is out of range"),
+    tells(Check::InvalidPage, Value::Nothing, "the page is above the last page"),
+    tells(Check::InvalidUniverseOrder, Value::Number, "the universes are not strictly ascending"),
+    tells(Check::MissingField, Value::Nothing, "the layer is too short for its fields"),
+    tells(Check::BufferTooSmall, Value::Nothing, "the buffer is shorter than the packet"),
+    tells(Check::NameTooLong, Value::Nothing, "the name has more than 63 bytes"),
+    tells(Check::NameHasZero, Value::Nothing, "the name has a zero in it"),
+    tells(Check::WrittenNameNotUtf8, Value::GoodBytes, "the name to be written is not UTF-8"),
+    tells(Check::TooMany, Value::Nothing, "there are more than 513 values or 512 universes"),
+    tells(Check::EqualUniverses, Value::Nothing, "two neighbouring universes are equal"),
+    tells(Check::FallingUniverses, Value::Nothing, "a universe is below the one before it"),
+    tells(Check::NoMulticastAddress, Value::Number, "the universe has no multicast address"),
+    tells(Check::NoUniversesCopied, Value::Nothing, "there is no readable list of universes, or no room for it"),
+];
+
+/// A number that is none of these.
+static UNKNOWN: Row = tells(
+    Check::Unknown,
+    Value::Number,
+    "a check that is not known here",
+);
+
+fn row(number: u8) -> &'static Row {
+    let known = CHECKS.iter().find(|row| row.check.number() == number);
+    known.unwrap_or(&UNKNOWN)
+}
 
 impl Check {
     /// The refusal's number.
@@ -178,31 +231,18 @@ impl Check {
     }
 
     fn of(number: u8) -> Check {
-        let row = CHECKS.iter().find(|(check, _)| check.number() == number);
-        row.map_or(Check::Unknown, |(check, _)| *check)
+        row(number).check
     }
 
-    fn has_value(self) -> bool {
-        use Check::*;
-        matches!(
-            self,
-            Unknown
-                | InvalidFlags
-                | InvalidVector
-                | InvalidLength
-                | InvalidPriority
-                | InvalidSyncAddress
-                | InvalidUniverse
-                | InvalidUniverseOrder
-                | NoMulticastAddress
-        )
+    /// Whether its refusals have a value. Where not, [`Refusal::value`] is 0.
+    pub fn has_value(self) -> bool {
+        row(self.number()).value != Value::Nothing
     }
 }
 
 impl Display for Check {
     fn fmt(&self, f: &mut Formatter<'_>) -> fmt::Result {
-        let row = CHECKS.iter().find(|(check, _)| check == self);
-        f.write_str(row.map_or("a check that is not known here", |(_, words)| words))
+        f.write_str(row(self.number()).words)
     }
 }
 
@@ -272,6 +312,24 @@ mod tests {
     }
 
     #[test]
+    fn of_a_malformed_name_the_good_bytes_are_told() {
+        for row in &CHECKS {
+            let malformed = [Check::NameNotUtf8, Check::WrittenNameNotUtf8].contains(&row.check);
+            assert_eq!(row.value == Value::GoodBytes, malformed, "{:?}", row.check);
+        }
+        for (value, words) in [(0, "0 bytes are"), (1, "1 byte is"), (62, "62 bytes are")] {
+            assert_eq!(
+                refusal(7, 3, value).to_string(),
+                format!("the name is not UTF-8 (7) in the framing layer: {words} good")
+            );
+            assert_eq!(
+                refusal(23, 0, value).to_string(),
+                format!("the name to be written is not UTF-8 (23): {words} good")
+            );
+        }
+    }
+
+    #[test]
     fn what_is_not_there_is_not_told() {
         assert_eq!(
             refusal(6, 3, 0).to_string(),
@@ -288,9 +346,17 @@ mod tests {
     }
 
     #[test]
+    fn a_value_is_told_where_the_check_has_one() {
+        for row in CHECKS.iter().chain([&UNKNOWN]) {
+            let told = refusal(row.check.number(), 0, 7).to_string();
+            assert_eq!(told.contains(": 7"), row.check.has_value(), "{told}");
+        }
+    }
+
+    #[test]
     fn numbers_and_checks_are_one_to_one() {
-        for (check, _) in CHECKS {
-            assert_eq!(Check::of(check.number()), check);
+        for row in &CHECKS {
+            assert_eq!(Check::of(row.check.number()), row.check);
         }
         assert_eq!(Check::of(14), Check::Unknown);
         assert_eq!(

@@ -194,9 +194,47 @@ static void refusals(void)
                                                     sizeof long_name, VALUES, sizeof VALUES);
     CHECK(is(named.refusal, LEDGERWREN_REFUSAL_NAME_TOO_LONG, LEDGERWREN_PLACE_NOWHERE, 0));
     CHECK(named.count == 0 && filled(buf, sizeof buf, FILL));
-    /* Only C can offer a name that is no UTF-8. */
-    named = ledgerwren1_pack_data(buf, sizeof buf, data_header(0), NAME, sizeof NAME - 1, VALUES, 1);
-    CHECK(named.refusal.number == LEDGERWREN_REFUSAL_WRITTEN_NAME_NOT_UTF8);
+}
+
+/* A name that is no UTF-8, which only C can offer, and how many of its bytes are good. */
+static void malformed(const uint8_t *name, size_t len, uint32_t good)
+{
+    uint8_t buf[140];
+    memset(buf, FILL, sizeof buf);
+    LedgerwrenOutcome written =
+        ledgerwren1_pack_data(buf, sizeof buf, data_header(0), name, len, VALUES, sizeof VALUES);
+    CHECK(is(written.refusal, LEDGERWREN_REFUSAL_WRITTEN_NAME_NOT_UTF8, LEDGERWREN_PLACE_NOWHERE, good));
+    CHECK(written.count == 0 && filled(buf, sizeof buf, FILL));
+    LedgerwrenDiscoveryHeader header = {.fields = {.page = 3, .last_page = 5}};
+    written = ledgerwren1_pack_discovery(buf, sizeof buf, header, name, len, UNIVERSES, COUNT(UNIVERSES));
+    CHECK(is(written.refusal, LEDGERWREN_REFUSAL_WRITTEN_NAME_NOT_UTF8, LEDGERWREN_PLACE_NOWHERE, good));
+    CHECK(written.count == 0 && filled(buf, sizeof buf, FILL));
+
+    /* The same name in a packet that is read, with rubbish behind its zero. */
+    written = ledgerwren1_pack_data(buf, sizeof buf, data_header(0), NAME, sizeof NAME, VALUES, 1);
+    memset(buf + 44, 0xff, 64);
+    for (size_t i = 0; i < len; i++)
+        buf[44 + i] = name[i];
+    buf[44 + len] = 0;
+    CHECK(is(ledgerwren1_parse(buf, written.count).refusal, LEDGERWREN_REFUSAL_NAME_NOT_UTF8,
+             LEDGERWREN_PLACE_FRAMING, good));
+    CHECK(is(ledgerwren1_parse_2009(buf, written.count).refusal, LEDGERWREN_REFUSAL_NAME_NOT_UTF8,
+             LEDGERWREN_PLACE_FRAMING, good));
+}
+
+static void malformed_names(void)
+{
+    static const uint8_t second[] = {0xc3, 0x28}, cut[] = {0x61, 0xc3}, lead[] = {0xf0, 0x9f, 0x92};
+    static const uint8_t surrogate[] = {0x61, 0x62, 0xed, 0xa0, 0x80}, after[] = {0xe2, 0x82, 0xac, 0xc0};
+    uint8_t last[63];
+    memset(last, 'n', sizeof last);
+    last[62] = 0xff;
+    malformed(second, sizeof second, 0);
+    malformed(cut, sizeof cut, 1);
+    malformed(surrogate, sizeof surrogate, 2);
+    malformed(after, sizeof after, 3);
+    malformed(lead, sizeof lead, 0);
+    malformed(last, sizeof last, 62);
 }
 
 static void universes(void)
@@ -221,6 +259,7 @@ int main(void)
     synchronization();
     discovery();
     refusals();
+    malformed_names();
     universes();
     return failures != 0;
 }

@@ -170,8 +170,9 @@ fn a_cut_datagram_is_refused_and_a_longer_one_read() {
     }
 }
 
-/// Reads a data packet with these bytes as its name, and says what came of it.
-fn named<'a>(datagram: &'a mut [u8], name: &[u8]) -> Result<&'a str, u8> {
+/// Reads a data packet with these bytes as its name, and says what came of it: the name, or the number
+/// and the value of the refusal.
+fn named<'a>(datagram: &'a mut [u8], name: &[u8]) -> Result<&'a str, (u8, u32)> {
     datagram[NAME..NAME + name.len()].copy_from_slice(name);
     datagram[NAME + name.len()..NAME + 64].fill(0);
     match parse(datagram) {
@@ -180,11 +181,12 @@ fn named<'a>(datagram: &'a mut [u8], name: &[u8]) -> Result<&'a str, u8> {
             ..
         }) => Ok(packet.source_name),
         Ok(packet) => panic!("{packet:?} is no data packet"),
-        Err(refusal) => Err(refusal.number()),
+        Err(refusal) => Err((refusal.number(), refusal.value())),
     }
 }
 
-/// The name is taken for UTF-8 unseen, so the reader is asked where the library would look.
+/// The name is taken for UTF-8 unseen, so the reader is asked where the library would look, and how many
+/// bytes of another are good.
 #[test]
 fn a_name_is_read_exactly_where_it_is_utf8() {
     const MALFORMED: u8 = Check::NameNotUtf8 as u8;
@@ -196,10 +198,40 @@ fn a_name_is_read_exactly_where_it_is_utf8() {
             for third in THIRD {
                 let name = [first, second, third, 0x80];
                 for name in [&name[..2], &name[..3], &name] {
-                    let expected = std::str::from_utf8(name).map_err(|_| MALFORMED);
+                    let expected = std::str::from_utf8(name);
+                    let expected =
+                        expected.map_err(|error| (MALFORMED, error.valid_up_to() as u32));
                     assert_eq!(named(&mut datagram, name), expected, "{name:x?}");
                 }
             }
+        }
+    }
+}
+
+#[test]
+fn a_malformed_name_tells_how_many_bytes_are_good() {
+    let last = [&[b'n'; 62][..], &[0xff]].concat();
+    let names: [(&[u8], u32); 6] = [
+        (b"\xc3\x28", 0),
+        (b"a\xc3", 1),
+        (b"ab\xed\xa0\x80", 2),
+        (b"\xe2\x82\xac\xc0", 3),
+        (b"\xf0\x9f\x92", 0),
+        (&last, 62),
+    ];
+    for (name, good) in names {
+        // What stands behind the zero changes nothing, not even a byte that could go on.
+        for rubbish in [0, 0x80, 0xff] {
+            let mut field = [name, &[0]].concat();
+            field.resize(64, rubbish);
+            for mut datagram in [datagram(&data("")), discovery()] {
+                datagram[NAME..NAME + 64].copy_from_slice(&field);
+                assert_eq!(refused(&datagram), (7, 3, good), "{field:x?}");
+            }
+            let mut datagram = datagram(&data(""));
+            datagram[NAME..NAME + 64].copy_from_slice(&field);
+            let old = parse_2009(&datagram).expect_err("a refusal");
+            assert_eq!((old.number(), old.place(), old.value()), (7, 3, good));
         }
     }
 }

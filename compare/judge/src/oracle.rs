@@ -106,12 +106,13 @@ fn record_of(packet: AcnRootLayerProtocol) -> Record {
 /// Writes a record by the crate, or, where its name lies outside the crate's domain, answers what
 /// document 01 says.
 pub fn pack(record: &Record, room: usize) -> Answer {
-    if let Some(number) = name_refusal(record) {
+    if let Some((number, value)) = name_refusal(record) {
         let short = room < record.packet_length();
+        let (number, value) = if short { (20, 0) } else { (number, value) };
         return Answer::PackRefused(Refusal {
-            number: if short { 20 } else { number },
+            number,
             place: 0,
-            value: 0,
+            value,
         });
     }
     let packet = packet_of(record);
@@ -126,17 +127,17 @@ pub fn pack(record: &Record, room: usize) -> Answer {
     }
 }
 
-/// Document 01's refusals of a name at writing, in its order; the crate has none of them.
-fn name_refusal(record: &Record) -> Option<u8> {
+/// Document 01's refusals of a name at writing and their values, in its order; the crate has none of
+/// them. The standard library says how many bytes are good.
+fn name_refusal(record: &Record) -> Option<(u8, u32)> {
     let name = record.name()?;
     if name.len() > 63 {
-        Some(21)
+        Some((21, 0))
     } else if name.contains(&0) {
-        Some(22)
-    } else if std::str::from_utf8(name).is_err() {
-        Some(23)
+        Some((22, 0))
     } else {
-        None
+        let malformed = std::str::from_utf8(name).err();
+        malformed.map(|error| (23, error.valid_up_to() as u32))
     }
 }
 

@@ -4,6 +4,7 @@ use crate::kinds;
 use crate::wire::*;
 use sacn::error::errors::SacnError;
 use sacn::sacn_parse_pack_error::ParsePacketError::{self, *};
+use std::fmt::Debug;
 
 #[derive(Clone, Copy, PartialEq, Eq, PartialOrd, Ord)]
 pub struct Refusal {
@@ -18,15 +19,19 @@ const UNEXPECTED: (u8, u32) = (0, 0);
 /// A panic while reading; its place is the layer whose code panicked.
 pub const PANIC: u8 = 13;
 
-/// Document 01's number for an error of the crate, and the value the error carries. The number counts
-/// only where the definition of crates/demands gives it the error's kind.
+/// The number, where the definition of crates/demands gives it the error's kind.
+fn held_to_kind(number: u8, error: &impl Debug) -> u8 {
+    if kinds::of(number) == kinds::name(error) {
+        number
+    } else {
+        UNEXPECTED.0
+    }
+}
+
+/// Document 01's number for an error of the crate, and the value the error carries.
 fn number_and_value(error: &ParsePacketError, writing: bool) -> (u8, u32) {
     let (number, value) = by_kind(error, writing);
-    if kinds::of(number) == kinds::name(error) {
-        (number, value)
-    } else {
-        UNEXPECTED
-    }
+    (held_to_kind(number, error), value)
 }
 
 fn by_kind(error: &ParsePacketError, writing: bool) -> (u8, u32) {
@@ -59,8 +64,8 @@ fn universe_in(text: &str) -> u32 {
 
 pub fn of_reading(error: &SacnError, datagram: &[u8]) -> Refusal {
     let (number, value, place) = match error {
-        // A name is looked at in a framing layer only.
-        SacnError::Str(_) => (7, 0, 3),
+        // A name is looked at in a framing layer only. The error says how many of its bytes are good.
+        SacnError::Str(utf8) => (held_to_kind(7, error), utf8.valid_up_to() as u32, 3),
         SacnError::SacnParsePackError(error) => {
             let (number, value) = number_and_value(error, false);
             (number, value, place(number, error, datagram))
@@ -77,7 +82,7 @@ pub fn of_reading(error: &SacnError, datagram: &[u8]) -> Refusal {
 pub fn of_writing(error: &SacnError) -> Refusal {
     let (number, value) = match error {
         SacnError::SacnParsePackError(error) => number_and_value(error, true),
-        SacnError::IllegalUniverse(universe) => (30, u32::from(*universe)),
+        SacnError::IllegalUniverse(universe) => (held_to_kind(30, error), u32::from(*universe)),
         _ => UNEXPECTED,
     };
     Refusal {

@@ -1,8 +1,8 @@
-//! How often each record and each refusal was met.
+//! How often each record and each refusal was met, and with which numbers of good bytes.
 
 use crate::oracle::Answer;
 use crate::request::Request;
-use std::collections::BTreeMap;
+use std::collections::{BTreeMap, BTreeSet};
 
 #[derive(Clone, Copy, PartialEq, Eq, PartialOrd, Ord)]
 pub enum Met {
@@ -88,26 +88,67 @@ const UNREACHABLE: [(&str, &str); 6] = [
     ("31", "copying universes out is not the crate's; the probe has no request for it"),
 ];
 
+/// The refusals whose value is how many bytes of a name are good.
+const MALFORMED: [Met; 2] = [ReadRefused(7, 3), PackRefused(23)];
+
+/// A name has at most 63 bytes, and one of them is bad.
+const MOST_GOOD: u32 = 62;
+
 #[derive(Default)]
-pub struct Tally(BTreeMap<Met, u64>);
+pub struct Tally {
+    met: BTreeMap<Met, u64>,
+    good_bytes: BTreeMap<Met, BTreeSet<u32>>,
+}
 
 impl Tally {
     pub fn count(&mut self, request: &Request, answer: &Answer) {
-        *self.0.entry(met(request, answer)).or_default() += 1;
+        let met = met(request, answer);
+        *self.met.entry(met).or_default() += 1;
+        if let Answer::ReadRefused(r) | Answer::PackRefused(r) = answer {
+            if MALFORMED.contains(&met) {
+                self.good_bytes.entry(met).or_default().insert(r.value);
+            }
+        }
+    }
+
+    /// Prints which values of the refusals of a malformed name were met; says whether all that can occur
+    /// were, and no other.
+    fn print_good_bytes(&self) -> bool {
+        let all: BTreeSet<u32> = (0..=MOST_GOOD).collect();
+        let none = BTreeSet::new();
+        let mut whole = true;
+        for refusal in MALFORMED {
+            let (words, values) = (name(refusal), self.good_bytes.get(&refusal));
+            let values = values.unwrap_or(&none);
+            let count = values.intersection(&all).count();
+            println!(
+                "{words}: {count} of the {} values 0..={MOST_GOOD}",
+                all.len()
+            );
+            for value in all.difference(values) {
+                println!("never met: {words} value {value}");
+            }
+            for value in values.difference(&all) {
+                println!("met, and it should not occur: {words} value {value}");
+            }
+            whole &= *values == all;
+        }
+        whole
     }
 
     /// Prints the table; says whether all that can occur was met, and nothing else.
     pub fn print(&self) -> bool {
         for met in EXPECTED {
-            println!("{:<28}{:>10}", name(met), self.0.get(&met).unwrap_or(&0));
+            println!("{:<28}{:>10}", name(met), self.met.get(&met).unwrap_or(&0));
         }
+        let good_bytes = self.print_good_bytes();
         println!("cannot occur:");
         for (what, why) in UNREACHABLE {
             println!("  {what}: {why}");
         }
-        let missed = EXPECTED.iter().filter(|met| !self.0.contains_key(met));
+        let missed = EXPECTED.iter().filter(|met| !self.met.contains_key(met));
         let missed: Vec<_> = missed.map(|met| name(*met)).collect();
-        let strange = self.0.keys().filter(|met| !EXPECTED.contains(met));
+        let strange = self.met.keys().filter(|met| !EXPECTED.contains(met));
         let strange: Vec<_> = strange.map(|met| name(*met)).collect();
         for what in &missed {
             println!("never met: {what}");
@@ -115,7 +156,7 @@ impl Tally {
         for what in &strange {
             println!("met, and it should not occur: {what}");
         }
-        missed.is_empty() && strange.is_empty()
+        missed.is_empty() && strange.is_empty() && good_bytes
     }
 }
 

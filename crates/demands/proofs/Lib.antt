@@ -20,6 +20,8 @@ pub mod Discovery
 pub mod Edition2009
 pub mod Contracts
 pub mod Spans
+pub mod GoodBytes
+pub mod Malformed
 pub mod Laid
 pub mod Unlooked
 pub mod Settled

@@ -35,6 +35,9 @@ u32-at = settled (λ k a r e p. p)
 pub part : SettledAs Wire.part.Reads.Learnt (λ k r e. now r)
 part = settled-as (λ k a r e p. p)
 
+pub least : Settled Wire.least.Reads.Learnt
+least = settled (λ k a r e p. p)
+
 pub copy : SettledAs Wire.copy.Reads.Learnt (λ k r e. now (e .0))
 copy = settled-as (λ k a r e p. p)
 

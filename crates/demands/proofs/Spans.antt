@@ -85,6 +85,12 @@ part-in start d len ends whole =
       shown = ap length (part-inside d start len fits) ∙ length-take-le len (drop start d) (simp length-drop (omega arith));
     }
 
+-- the framing layer's bytes, by their place in the datagram
+pub framed-at : (d : List ℕ) (k : ℕ) → k < lengthOf (rootPart d) - 22 → getD (framingPart d) k 0 ≡ getD d (38 + k) 0
+framed-at d k h =
+    let at : 16 + (22 + k) ≡ 38 + k = omega arith in
+    cut-at 22 (lengthOf (rootPart d) - 22) (rootPart d) k h ∙ getD-drop 16 d (22 + k) 0 ∙ ap (λ (i : ℕ). getD d i 0) at
+
 -- Of a datagram whose root layer is accepted:
 module _ (edition : Edition) (d : List ℕ) (rooted : All (preambleChecks d ++ rootChecks edition (rootPart d))) where
   abbrev p : List ℕ
@@ -103,12 +109,6 @@ module _ (edition : Edition) (d : List ℕ) (rooted : All (preambleChecks d ++ r
   inside : (22 ≤ lengthOf (rootPart d)) × (packetEnd d ≤ length d) × (length p ≤ room)
   inside = omega (arith, within edition d rooted, length-take room (drop 22 (rootPart d)))
 
-  -- the part's bytes, by their place in the datagram
-  framed-at : (k : ℕ) → k < room → getD p k 0 ≡ getD d (38 + k) 0
-  framed-at k h =
-      let at : 16 + (22 + k) ≡ 38 + k = omega arith in
-      cut-at 22 room (rootPart d) k h ∙ getD-drop 16 d (22 + k) 0 ∙ ap (λ (i : ℕ). getD d i 0) at
-
   -- The name.
   module _ (held : All (sourceNameChecks field)) where
     short : (zeroAt field < 64) × (6 + zeroAt field < room)
@@ -118,7 +118,7 @@ module _ (edition : Edition) (d : List ℕ) (rooted : All (preambleChecks d ++ r
     name-at k h =
         let s = short in
         let at : 38 + (6 + k) ≡ 44 + k = omega arith in
-        sym (cut-at 6 64 p k (omega arith) ∙ framed-at (6 + k) (omega arith) ∙ ap (λ (i : ℕ). getD d i 0) at)
+        sym (cut-at 6 64 p k (omega arith) ∙ framed-at d (6 + k) (omega arith) ∙ ap (λ (i : ℕ). getD d i 0) at)
 
     name-shown : shownAt d (span 44 (zeroAt field)) ≡ textOf field
     name-shown =
@@ -229,7 +229,7 @@ module _ (edition : Edition) (d : List ℕ) (rooted : All (preambleChecks d ++ r
         let at : 120 + k ≡ 38 + (74 + (8 + k)) = omega arith in
         cut-at 120 (2 * count) d k h
         ∙ ap (λ (i : ℕ). getD d i 0) at
-        ∙ sym (framed-at (74 + (8 + k)) (omega arith))
+        ∙ sym (framed-at d (74 + (8 + k)) (omega arith))
         ∙ sym (cut-at 74 (n - 74) p (8 + k) (omega arith))
         ∙ sym (getD-drop 8 part k 0)
 

@@ -2,10 +2,11 @@
 use Prim.Native.Nat.{ℕ, _+_, _*_, _≤_, _<_}
 use mathlib.Core.Path.{_≡_}
 use mathlib.Core.List.{List}
-use lib.ListN.{length}
+use lib.ListN.{length, take, drop}
 use Rattle.wire.specs.Fields.{byteAt}
 use Rattle.refusal.proofs.Tests.{Holds}
 use Rattle.refusal.proofs.Laws.{All}
+use Rattle.name.specs.Name.{textOf}
 use Rattle.name.specs.Utf8.{wellFormed}
 use Rattle.pdu.specs.Head.{lengthOf}
 use Rattle.discovery.specs.Layer.{listPart, countIn}
@@ -23,6 +24,10 @@ use Rattle.edition2009.specs.declared.Packet2009.the-variants as old
 -- where the packet ends: sixteen bytes and the root length
 abbrev pub packetEnd : List ℕ → ℕ
 packetEnd d = 16 + lengthOf (rootPart d)
+
+-- the bytes of 44..107 that stand before the first zero: the name of a datagram that has one, readable or not
+abbrev pub nameText : List ℕ → List ℕ
+nameText d = textOf (take 64 (drop 44 d))
 
 -- A name stands in 44..107, and so does the zero behind it, which lies in the packet and in the datagram. What is shown is as long as the span
 -- says, well-formed UTF-8, and has no zero.

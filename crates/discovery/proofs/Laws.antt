@@ -53,7 +53,7 @@ module _ (f : ℕ → ℕ → List Check) where
     where
       from : (u : ℕ) (us : List ℕ) → ((w i : ℕ) → Every P (f w (getD us i 0))) → Every P (pairsFrom f u us)
       from u [] h = tt
-      from u (v ∷ vs) h = every-++ P (f u v) (pairsFrom f v vs) (h u 0) (from v vs (λ w i. h w (suc i)))
+      from u (v ∷ vs) h = every-++ P (f u v) (pairsFrom f v vs) (h u 0) (λ a. from v vs (λ w i. h w (suc i)))
 
   module _ (us : List ℕ) (u i : ℕ) where
     pairs-more : i < length us →

@@ -1,5 +1,5 @@
 -- The two editions, over every datagram: where they answer the same, and where not. Assumes nothing.
-use Prim.Native.Nat.{ℕ, _<_}
+use Prim.Native.Nat.{ℕ, _≤_, _<_}
 use mathlib.Core.Path.{_≡_, refl, sym, ap, _∙_}
 use mathlib.Core.List.{List, [], _∷_, _++_}
 use mathlib.Core.Bool.{Bool, true, false}
@@ -8,23 +8,22 @@ use native.Mathlib.Omega.{arith}
 use lib.ListN.{length}
 use Rattle.refusal.specs.declared.Refusal.{Refusal}
 use Rattle.refusal.specs.declared.Checked.the-variants as checked
-use Rattle.refusal.specs.Check.{Test, outcome, pick, Check, refusal, root, framing, _≤?_, _=?_, _≠?_, reading, checkedOf}
+use Rattle.refusal.specs.Check.{outcome, pick, Check, refusal, root, framing, _≤?_, _=?_, _≠?_, reading, checkedOf}
 use Rattle.refusal.proofs.Tests.{Holds, chosen, decide}
-use Rattle.refusal.proofs.Laws.{All, all-hold, first-fails, reading-++, always, afterCheck, check-first, every, computed}
-use Rattle.name.specs.Name.{sourceNameChecks}
+use Rattle.refusal.proofs.Laws.{All, Every, all-hold, first-fails, reading-++, always, every-++, afterCheck, check-first, computed}
+use Rattle.name.specs.Name.{nameField, sourceNameChecks}
 use Rattle.pdu.specs.Head.{headChecks, lengthOf, vectorOf}
 use Rattle.pdu.specs.declared.VectorLength.the-variants.{Four}
 use Rattle.wire.specs.Fields.{u16At}
 use Rattle.pdu.specs.declared.Edition.the-variants.{E2018, E2009}
-use Rattle.framing.specs.Data.{startChecks, priorityChecks, syncAddressChecks, restChecks, dataChecks}
-use Rattle.name.specs.Name.{nameField}
+use Rattle.framing.specs.Data.{startChecks, priorityChecks, syncAddressChecks, restChecks, fieldChecks, dataChecks}
 use Rattle.extended.specs.Extended.{extendedChecks}
-use Rattle.root.specs.Root.{rootPart, vectorChecks, cidChecks}
+use Rattle.root.specs.Root.{preambleChecks, rootChecks, rootPart, vectorChecks, cidChecks}
 use Rattle.packet.specs.Packet.{rootVector, framingPart, framingChecks, dataRecord, extendedRecord, recordOf, packetOf, withCid, readingOf}
 use Rattle.packet.specs.Table.{allowed}
 use Rattle.packet.specs.declared.Packet.{Packet}
 use Rattle.packet.specs.declared.Packet.the-variants as present
-use Rattle.packet.proofs.Whole.{read}
+use Rattle.packet.proofs.Whole.{read, each-data, name-tabled}
 use Rattle.edition2009.specs.Packet.{packetChecks2009, dataRecord2009, packet2009Of, withCid2009, reading2009Of}
 use Rattle.edition2009.specs.Editions.{droppedReading, beforeVector}
 use Rattle.edition2009.specs.declared.Packet2009.{Packet2009}
@@ -175,22 +174,45 @@ unfolding reading2009Of
 read-2009 d = beside d (packet2009Of d)
 
 -- What every check of the 2009 reader tells is so of what it refuses with.
-abbrev Told : (Refusal → Test) → Packet2009 → Type 0
-Told t (Data x) = Unit {0}
-Told t (Refused r) = Holds (t r)
+module _ (P : Refusal → Type 0) (d : List ℕ) where
+  abbrev Told : Packet2009 → Type 0
+  Told (Data x) = Unit {0}
+  Told (Refused r) = P r
 
-told : (t : Refusal → Test) (d : List ℕ) (r : Refusal) → every t (packetChecks2009 d) ≡ true → reading2009Of d .packet ≡ Refused r → Holds (t r)
-unfolding packet2009Of
-told t d r all e =
-    let x : packet2009Of d ≡ Refused r = sym (read-2009 d) ∙ e in
-    let answer : Told t (packet2009Of d) =
-    always Refused (Told t) (packetChecks2009 d) (Data (dataRecord2009 (framingPart d))) (computed t (packetChecks2009 d) all) tt in
-    rw x at answer
+  pub refused-with : (r : Refusal) → Every P (packetChecks2009 d) → reading2009Of d .packet ≡ Refused r → P r
+  unfolding packet2009Of
+  refused-with r all e =
+      let x : packet2009Of d ≡ Refused r = sym (read-2009 d) ∙ e in
+      let answer : Told (packet2009Of d) = always Refused Told (packetChecks2009 d) (Data (dataRecord2009 (framingPart d))) all tt in
+      rw x at answer
+
+  -- What is so of every check of its pieces is so of all of them.
+  pub each-check-2009 :
+      let p = framingPart d in
+      let outer = preambleChecks d ++ rootChecks E2009 (rootPart d) in
+      Every P outer →
+      Every P (headChecks Four framing p ++ startChecks p (lengthOf p) (vectorOf Four p)) →
+      (70 ≤ length p → Every P (sourceNameChecks (nameField p))) →
+      Every P (fieldChecks E2009 p (lengthOf p)) →
+      Every P (packetChecks2009 d)
+  each-check-2009 outer start named fields =
+      let p = framingPart d in
+      every-++ P (preambleChecks d ++ rootChecks E2009 (rootPart d)) (dataChecks E2009 p) outer
+      (λ a. each-data P E2009 p start named fields)
 
 -- The 2009 reader never refuses 9.
 pub never-nine : (d : List ℕ) (r : Refusal) → reading2009Of d .packet ≡ Refused r → r .number ≡ 9 → ⊥
-never-nine d r e = told (λ (r : Refusal). r .number ≠? 9) d r refl e
+never-nine d r e =
+    refused-with (λ (r : Refusal). r .number ≡ 9 → ⊥) d r (computed (λ (r : Refusal). r .number ≠? 9) (packetChecks2009 d) refl) e
 
--- Its refusals have a number and a place of document 01's table.
+-- Its refusals have a number and a place of document 01's table, the value 0 where the table names none, and at most 62 for 7.
 pub refusals : (d : List ℕ) (r : Refusal) → reading2009Of d .packet ≡ Refused r → Holds (allowed r)
-refusals d r e = told allowed d r refl e
+refusals d r e =
+    let p = framingPart d in
+    refused-with (λ (r : Refusal). Holds (allowed r)) d r
+    (each-check-2009 (λ (r : Refusal). Holds (allowed r)) d
+    (computed allowed (preambleChecks d ++ rootChecks E2009 (rootPart d)) refl)
+    (computed allowed (headChecks Four framing p ++ startChecks p (lengthOf p) (vectorOf Four p)) refl)
+    (λ room. name-tabled p)
+    (computed allowed (fieldChecks E2009 p (lengthOf p)) refl))
+    e

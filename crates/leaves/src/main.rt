@@ -160,11 +160,19 @@ fn names() {
     field(&cut);
     field(&bad);
     field(&[0; 64]);
+    bad[1] = 0xc3;
+    bad[2] = 0;
+    field(&bad);
+    // Of 65 bytes the first 64 are the field, and the zero behind them ends no name.
+    let mut long = [b'n'; 65];
+    long[64] = 0;
+    field(&long);
     written(b"");
     written(&text[0..63]);
     written(&text);
     written(&cut[60..64]);
-    written(&bad[2..4]);
+    written(&bad[3..5]);
+    written(b"FOH\xe2\x82\x28");
 }
 
 fn main() {

@@ -5,14 +5,15 @@ use mathlib.Core.List.{List, [], _∷_, _++_, append-nil}
 use native.Mathlib.Nat.{sub-zero}
 use native.Mathlib.Omega.{arith}
 use lib.ListN.{length, take, drop, getD, replicate, drop-of-length-le, length-append, length-replicate}
-use lib.Seq.{sets, length-take-le, take-append-le, take-append-add}
+use lib.Seq.{sets, length-take-le, take-append-le, take-append-add, take-take}
 use Rattle.refusal.specs.Check.{_=?_, _≤?_}
 use Rattle.refusal.proofs.Tests.{chosen, passed-over, choice, decide}
 use Rattle.refusal.proofs.Laws.{found}
 use Rattle.wire.proofs.Laws.{drop-more, take-zeros, sets-take, sets-front}
 use Rattle.name.specs.Utf8.{leadOf, step, marked, reach}
-use Rattle.name.specs.Name.{zeroAt, textOf, sourceNameChecks, sourceNameOf, nameBytes}
+use Rattle.name.specs.Name.{nameField, zeroAt, textOf, sourceNameChecks, sourceNameOf, nameBytes}
 use Rattle.name.specs.declared.utf8.Expect.{Expect}
+use Rattle.name.specs.declared.SourceName.{SourceName}
 use Rattle.name.specs.declared.SourceName.the-variants as source
 use Rattle.name.proofs.Choices.{Choices, row, rows, otherwise}
 
@@ -69,6 +70,10 @@ text-within field n e =
     let f = found source.Refused (sourceNameChecks field) (source.Text (zeroAt field)) (source.Text n) (λ r q. let z : _≡_ {A = ℕ} 0 1 = cc in omega arith) e in
     let at : zeroAt field ≡ n = cc in
     omega arith
+
+-- The field of a layer's part has no more than 64 bytes: x is what was found in it, and known to be y.
+pub name-found : (p : List ℕ) {x y : SourceName} → x ≡ sourceNameOf (take 64 (nameField p)) → x ≡ y → sourceNameOf (nameField p) ≡ y
+name-found p e f = ap sourceNameOf (sym (take-take 64 64 (drop 6 p) (omega arith))) ∙ sym e ∙ f
 
 -- A name as it is written: cut at 64 bytes, or followed by zeros up to them.
 pub bytes-cut : (name : List ℕ) → 64 ≤ length name → nameBytes name ≡ take 64 name

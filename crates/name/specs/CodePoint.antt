@@ -1,6 +1,7 @@
 -- UTF-8 from the code points' side: the bytes of each, and text as a run of them.
-use Prim.Native.Nat.{ℕ, _+_, _/_, _%_}
+use Prim.Native.Nat.{ℕ, _+_, _/_, _%_, _≤_, _<_}
 use mathlib.Core.List.{List, [], _∷_, _++_}
+use lib.ListN.{length, take}
 use Rattle.refusal.specs.Check.{Test, _≤?_, _and_, _or_, choose}
 use Rattle.refusal.proofs.Tests.{Holds}
 
@@ -23,3 +24,13 @@ encode c =
 pub data Encoded : List ℕ → Type 0 where
   none : Encoded []
   more : (c : ℕ) {s : List ℕ} → Holds (scalar c) → Encoded s → Encoded (encode c ++ s)
+
+-- n bytes are the longest front of s that is such a run
+pub record LongestFront (s : List ℕ) (n : ℕ) : Type 0 where
+  pub within : n ≤ length s
+  pub whole : Encoded (take n s)
+  pub longest : (k : ℕ) → k ≤ length s → Encoded (take k s) → k ≤ n
+
+-- what 7 and 23 tell of a name: how many of its leading bytes are good, which are never all
+abbrev pub GoodBytes : List ℕ → ℕ → Type 0
+GoodBytes name n = LongestFront name n × (n < length name)

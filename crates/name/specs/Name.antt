@@ -3,7 +3,7 @@ use Prim.Native.Nat.{ℕ, suc, _+_}
 use mathlib.Core.List.{List, [], _∷_, _++_}
 use lib.ListN.{length, take, drop, replicate}
 use Rattle.refusal.specs.Check.{Check, check, refusal, framing, nowhere, _≤?_, _=?_, choose, reading}
-use Rattle.name.specs.Utf8.{wellFormed}
+use Rattle.name.specs.Utf8.{wholeChars, wellFormed}
 use Rattle.name.specs.declared.SourceName.{SourceName}
 use Rattle.name.specs.declared.SourceName.the-variants as source
 
@@ -20,22 +20,22 @@ zeroAt (b ∷ bs) = choose (b =? 0) 0 (suc (zeroAt bs))
 abbrev pub textOf : List ℕ → List ℕ
 textOf field = take (zeroAt field) field
 
--- 6: no zero; 7: not UTF-8
+-- 6: no zero; 7: not UTF-8, and how many leading bytes of the name form whole characters
 abbrev pub sourceNameChecks : List ℕ → List Check
 sourceNameChecks field =
     check (zeroAt field + 1 ≤? length field) (refusal 6 framing 0)
-    ∷ check (wellFormed (textOf field)) (refusal 7 framing 0)
+    ∷ check (wellFormed (textOf field)) (refusal 7 framing (wholeChars (textOf field)))
     ∷ []
 
 unfoldable pub sourceNameOf : List ℕ → SourceName
 sourceNameOf field = reading source.Refused (sourceNameChecks field) (source.Text (zeroAt field))
 
--- 21: above 63 bytes; 22: has a zero; 23: not UTF-8
+-- 21: above 63 bytes; 22: has a zero; 23: not UTF-8, and how many of its leading bytes form whole characters
 abbrev pub writtenNameChecks : List ℕ → List Check
 writtenNameChecks name =
     check (length name ≤? 63) (refusal 21 nowhere 0)
     ∷ check (length name ≤? zeroAt name) (refusal 22 nowhere 0)
-    ∷ check (wellFormed name) (refusal 23 nowhere 0)
+    ∷ check (wellFormed name) (refusal 23 nowhere (wholeChars name))
     ∷ []
 
 -- a name as it is written: zeros follow it up to the field's 64 bytes

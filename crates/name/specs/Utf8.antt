@@ -43,7 +43,7 @@ unfoldable pub reach : Expect → ℕ → ℕ → List ℕ → ℕ
 reach e whole at [] = whole
 reach e whole at (b ∷ bs) = reach (step e b) (marked (step e b) (at + 1) whole) (at + 1) bs
 
--- how many leading bytes form whole well-formed characters
+-- how many leading bytes form whole well-formed characters: the longest front that is a run of encoded code points (`LongestFront`)
 unfoldable pub wholeChars : List ℕ → ℕ
 wholeChars s = reach Lead 0 0 s
 

@@ -6,8 +6,10 @@ use refusal::Checked;
 use refusal::Refusal;
 use wire::constants::E131_SOURCE_NAME_FIELD_LENGTH;
 ghost use mathlib.Core.Path.{_≡_};
+ghost use Prim.Native.Nat.{_≤_};
+ghost use lib.ListN.{take, length as ListN·length};
 ghost use lib.Seq.{sets};
-ghost use Rattle.refusal.specs.Check.{checkedOf};
+ghost use Rattle.refusal.specs.Check.{refusal as Check·refusal, checkedOf};
 ghost use Rattle.name.specs.Name.{zeroAt, sourceNameOf, writtenNameChecks, nameBytes};
 pub use utf8::whole_characters;
 
@@ -30,8 +32,17 @@ fn zero_at(s: &[u8]) -> usize
     i
 }
 
-// The name in a field: what follows its zero is not looked at. A plain name needs one pass.
-pub fn parse_source_name_str(field: &[u8]) -> SourceName
+// Refuses a name that fits a field, and tells how many of its leading bytes are good.
+fn malformed(number: u8, place: u8, good: usize) -> Refusal
+    requires { ⌜ good ≤ 64 ⌝ }
+    ensures { λ r. ⌜ r ≡ Check·refusal number place good ⌝ }
+{
+    Refusal::new(number, place, good as u32)
+}
+
+// What follows the name's zero is not looked at. A plain name needs one pass.
+fn name_in(field: &[u8]) -> SourceName
+    requires { ⌜ ListN·length (now field) ≤ 64 ⌝ }
     ensures { λ r. ⌜ r ≡ sourceNameOf (now (field .entry)) ⌝ }
 {
     let plain = plain::plain_run(field);
@@ -44,10 +55,18 @@ pub fn parse_source_name_str(field: &[u8]) -> SourceName
     if field.len() <= len {
         return SourceName::Refused(Refusal::new(refusal::NAME_NOT_TERMINATED, refusal::FRAMING, 0));
     }
-    if whole_characters(&field[0..len]) != len {
-        return SourceName::Refused(Refusal::new(refusal::NAME_NOT_UTF8, refusal::FRAMING, 0));
+    let whole = whole_characters(&field[0..len]);
+    if whole != len {
+        return SourceName::Refused(malformed(refusal::NAME_NOT_UTF8, refusal::FRAMING, whole));
     }
     SourceName::Text { len }
+}
+
+// The name in a field, which has 64 bytes: what is lent behind them is not looked at.
+pub fn parse_source_name_str(field: &[u8]) -> SourceName
+    ensures { λ r. ⌜ r ≡ sourceNameOf (take 64 (now (field .entry))) ⌝ }
+{
+    name_in(&field[0..wire::least(field.len(), E131_SOURCE_NAME_FIELD_LENGTH)])
 }
 
 // Whether a name may be written: it has to leave room for a zero in its field.
@@ -63,8 +82,9 @@ pub fn check_source_name(name: &[u8]) -> Checked
     if zero_at(name) < name.len() {
         return Checked::Refused(Refusal::new(refusal::NAME_HAS_ZERO, refusal::NOWHERE, 0));
     }
-    if whole_characters(name) != name.len() {
-        return Checked::Refused(Refusal::new(refusal::WRITTEN_NAME_NOT_UTF8, refusal::NOWHERE, 0));
+    let whole = whole_characters(name);
+    if whole != name.len() {
+        return Checked::Refused(malformed(refusal::WRITTEN_NAME_NOT_UTF8, refusal::NOWHERE, whole));
     }
     Checked::Passed
 }

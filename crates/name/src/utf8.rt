@@ -67,7 +67,11 @@ fn next(expect: Expect, b: u8) -> Expect
 fn mark(expect: Expect, at: usize, whole: usize) -> usize
     ensures { λ r. ⌜ r ≡ marked expect at whole ⌝ }
 {
-    if let Expect::Lead = expect { at } else { whole }
+    match expect {
+        Expect::Lead => at,
+        Expect::Trail { .. } => whole,
+        Expect::Malformed => whole,
+    }
 }
 
 // How many leading bytes form whole well-formed characters.

@@ -1,10 +1,21 @@
--- Document 01's table, for writing: the numbers that each kind's writing tells, from 20 on, at place 0 and with the value 0.
+-- Document 01's table, for writing: the numbers that are told, from 20 on, all at place 0, and those that carry no value. A name that is no UTF-8
+-- has at most 63 bytes, and fewer of them are good.
 use Prim.Native.Nat.{ℕ}
 use Rattle.refusal.specs.declared.Refusal.{Refusal}
-use Rattle.refusal.specs.Check.{Test, _≤?_, _=?_, _and_, nowhere}
+use Rattle.refusal.specs.Check.{Test, _≤?_, _=?_, _and_, _or_, nowhere}
+
+abbrev pub told : ℕ → ℕ → ℕ → Test
+told number place value =
+    number =? 20 and place =? nowhere and value =? 0
+    or number =? 21 and place =? nowhere and value =? 0
+    or number =? 22 and place =? nowhere and value =? 0
+    or number =? 23 and place =? nowhere and value ≤? 62
+    or number =? 24 and place =? nowhere and value =? 0
+    or number =? 25 and place =? nowhere and value =? 0
+    or number =? 26 and place =? nowhere and value =? 0
 
 abbrev pub toldUpTo : ℕ → Refusal → Test
-toldUpTo last r = 20 ≤? r .number and r .number ≤? last and r .place =? nowhere and r .value =? 0
+toldUpTo last r = r .number ≤? last and told (r .number) (r .place) (r .value)
 
 -- data: 20 to 24; sync: 20; discovery: 20 to 26
 abbrev pub dataAllowed : Refusal → Test

@@ -7,8 +7,9 @@ use Rattle.wire.specs.Bytes.{Bytes}
 use Rattle.wire.proofs.Bytes.{bytes-drop, bytes-take, u16-small, u32-small}
 use Rattle.refusal.specs.Check.{framing, dmp, discovery}
 use Rattle.refusal.proofs.Laws.{Every, every-++}
-use Rattle.name.specs.Name.{zeroAt, sourceNameChecks}
+use Rattle.name.specs.Name.{zeroAt, nameField, sourceNameChecks}
 use Rattle.name.proofs.Laws.{zero-within}
+use Rattle.name.proofs.Good.{every-named}
 use Rattle.pdu.specs.Head.{headChecks, lengthOf, vectorOf}
 use Rattle.pdu.specs.declared.VectorLength.the-variants.{One, Four}
 use Rattle.dmp.specs.Layer as dmpLayer
@@ -17,8 +18,7 @@ use Rattle.discovery.specs.Layer.{ownChecks, listPart, countIn}
 use Rattle.discovery.proofs.Laws.{universes-words}
 use Rattle.pdu.specs.declared.Edition.the-variants.{E2018}
 use Rattle.framing.specs.Data as dataLayer
-use Rattle.framing.specs.Data.{dmpPart, priorityChecks, syncAddressChecks, universeChecks, dataChecks}
-use Rattle.name.specs.Name.{nameField}
+use Rattle.framing.specs.Data.{dmpPart, priorityChecks, syncAddressChecks, universeChecks, fieldChecks}
 use Rattle.extended.specs.Synchronization.{synchronizationChecks}
 use Rattle.extended.specs.UniverseDiscovery.{discoveryPart, startChecks}
 use Rattle.extended.specs.Extended.{kindChecks}
@@ -37,20 +37,27 @@ outer-sized d r b = omega (arith, b 0, u32-small r 2 b)
 
 dmp-sized : (q : List ℕ) → Bytes q → Every SizedRefusal (dmpChecks q)
 dmp-sized q b =
-    let start = headChecks One dmp q ++ dmpLayer.startChecks q (lengthOf q) (vectorOf One q) in
-    let starts : Every SizedRefusal start = omega (arith, b 0, b 2) in
-    every-++ SizedRefusal start (countChecks q (lengthOf q)) starts (omega arith)
+    let head = headChecks One dmp q in
+    let start = dmpLayer.startChecks q (lengthOf q) (vectorOf One q) in
+    let count = countChecks q (lengthOf q) in
+    let first : Every SizedRefusal head = omega (arith, b 0) in
+    let second : Every SizedRefusal start = omega (arith, b 2) in
+    every-++ SizedRefusal head (start ++ count) first (λ a. every-++ SizedRefusal start count second (λ c. omega arith))
 
-values-sized : (p : List ℕ) → Bytes p → Every SizedRefusal (dataChecks E2018 p)
-values-sized p b =
+start-sized : (p : List ℕ) → Bytes p → Every SizedRefusal (headChecks Four framing p ++ dataLayer.startChecks p (lengthOf p) (vectorOf Four p))
+start-sized p b = omega (arith, b 0, u32-small p 2 b)
+
+name-checks-sized : (p : List ℕ) → Every SizedRefusal (sourceNameChecks (nameField p))
+name-checks-sized p =
+    every-named SizedRefusal p (omega arith) (λ n few g. omega (arith, few))
+
+fields-sized : (p : List ℕ) → Bytes p → Every SizedRefusal (fieldChecks E2018 p (lengthOf p))
+fields-sized p b =
     let len = lengthOf p in
     let q = dmpPart p len in
-    let named = headChecks Four framing p ++ (dataLayer.startChecks p len (vectorOf Four p) ++ sourceNameChecks (nameField p)) in
     let fields = priorityChecks p ++ (syncAddressChecks E2018 p ++ universeChecks p len) in
-    let first : Every SizedRefusal named = omega (arith, b 0, u32-small p 2 b) in
-    let second : Every SizedRefusal fields = omega (arith, b 70, u16-small p 71 b, u16-small p 75 b) in
-    every-++ SizedRefusal named (fields ++ dmpChecks q) first
-    (every-++ SizedRefusal fields (dmpChecks q) second (dmp-sized q (part-bytes (len - 77) 77 p b)))
+    let own : Every SizedRefusal fields = omega (arith, b 70, u16-small p 71 b, u16-small p 75 b) in
+    every-++ SizedRefusal fields (dmpChecks q) own (λ a. dmp-sized q (part-bytes (len - 77) 77 p b))
 
 kind-sized : (whole : ℕ) (p : List ℕ) → Bytes p → Every SizedRefusal (headChecks Four framing p ++ kindChecks whole (lengthOf p) (vectorOf Four p))
 kind-sized whole p b = omega (arith, b 0, u32-small p 2 b)
@@ -58,7 +65,7 @@ kind-sized whole p b = omega (arith, b 0, u32-small p 2 b)
 synchronization-sized : (p : List ℕ) → Bytes p → Every SizedRefusal (synchronizationChecks p (lengthOf p))
 synchronization-sized p b = omega (arith, u16-small p 7 b)
 
-framed-sized : (p : List ℕ) → Every SizedRefusal (startChecks p (lengthOf p) ++ sourceNameChecks (nameField p))
+framed-sized : (p : List ℕ) → Every SizedRefusal (startChecks p (lengthOf p))
 framed-sized p = omega arith
 
 own-sized : (q : List ℕ) → Bytes q → Every SizedRefusal (headChecks Four discovery q ++ ownChecks q (lengthOf q) (vectorOf Four q))
@@ -82,7 +89,7 @@ sized d b =
     let qb : Bytes q = part-bytes (len - 74) 74 p pb in
     let words = universes-words (countIn (lengthOf q)) (listPart q) (bytes-drop 8 q qb) in
     each-answer Sized d
-    (each-check SizedRefusal d (outer-sized d r rb) (values-sized p pb) (kind-sized (length r) p pb) (synchronization-sized p pb) (framed-sized p) (own-sized q qb) (omega arith) (λ i. omega (arith, words i)))
+    (each-check SizedRefusal d (outer-sized d r rb) (start-sized p pb) (λ room. name-checks-sized p) (fields-sized p pb) (kind-sized (length r) p pb) (synchronization-sized p pb) (framed-sized p) (own-sized q qb) (omega arith) (λ i. omega (arith, words i)))
     ((pb 70, u16-small p 71 pb, pb 73, u16-small p 75 pb), name-sized p, u16-small e 8 eb)
     (pb 6, u16-small p 7 pb)
     ((qb 6, qb 7), name-sized p, (omega arith))

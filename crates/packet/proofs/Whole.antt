@@ -1,14 +1,16 @@
 -- The reader's whole behaviour, flat: the list of all checks of a datagram, and what `parse` makes of it. Assumes nothing.
-use Prim.Native.Nat.{ℕ}
+use Prim.Native.Nat.{ℕ, _≤_}
 use mathlib.Core.Path.{_≡_, refl, sym, _∙_}
 use mathlib.Core.List.{List, [], _∷_, _++_, append-nil}
 use mathlib.Core.Logic.{_⊎_, inl, inr}
+use native.Mathlib.Omega.{arith}
 use lib.ListN.{length, getD}
 use Rattle.refusal.specs.declared.Refusal.{Refusal}
 use Rattle.refusal.specs.Check.{Check, refusal, root, framing, dmp, discovery, universeList, _=?_, choose}
-use Rattle.refusal.proofs.Tests.{Holds, fact, chosen, passed-over, choice}
-use Rattle.refusal.proofs.Laws.{All, Stops, refusalAt, Every, decides, all-hold, first-fails, always, every-++, computed}
-use Rattle.name.specs.Name.{sourceNameChecks}
+use Rattle.refusal.proofs.Tests.{Holds, fact, bounded, chosen, passed-over, choice}
+use Rattle.refusal.proofs.Laws.{All, Stops, refusalAt, Every, decides, all-hold, first-fails, all-back, always, every-++, computed}
+use Rattle.name.specs.Name.{nameField, sourceNameChecks}
+use Rattle.name.proofs.Good.{every-named}
 use Rattle.pdu.specs.Head.{headChecks, lengthOf, vectorOf}
 use Rattle.pdu.specs.declared.VectorLength.the-variants.{One, Four}
 use Rattle.dmp.specs.Layer as dmpLayer
@@ -16,10 +18,10 @@ use Rattle.discovery.specs.Layer as discoveryLayer
 use Rattle.discovery.specs.Layer.{listPart, countIn}
 use Rattle.discovery.specs.Universes.{universes, pairs, ascends, listChecks}
 use Rattle.discovery.proofs.Laws.{every-pairs}
+use Rattle.pdu.specs.declared.Edition.{Edition}
 use Rattle.pdu.specs.declared.Edition.the-variants.{E2018}
 use Rattle.framing.specs.Data as dataLayer
-use Rattle.framing.specs.Data.{dataChecks, dmpPart, priorityChecks, syncAddressChecks, universeChecks}
-use Rattle.name.specs.Name.{nameField}
+use Rattle.framing.specs.Data.{dataChecks, fieldChecks, dmpPart, priorityChecks, syncAddressChecks, universeChecks}
 use Rattle.extended.specs.Synchronization.{synchronizationChecks}
 use Rattle.extended.specs.UniverseDiscovery as discoveryFraming
 use Rattle.extended.specs.UniverseDiscovery.{discoveryPart, discoveryFramingChecks}
@@ -135,6 +137,20 @@ module _ (d : List ℕ) (other : rootVector d ≡ 4 → ⊥) where
         append-nil (pairs ascends (universes (countIn (lengthOf q)) (listPart q))),
       )
 
+-- What is so of every check of a data framing layer's pieces is so of all its checks. A name is looked at only where its field is whole.
+pub each-data : (P : Refusal → Type 0) (edition : Edition) (p : List ℕ) →
+    let len = lengthOf p in
+    Every P (headChecks Four framing p ++ dataLayer.startChecks p len (vectorOf Four p)) →
+    (70 ≤ length p → Every P (sourceNameChecks (nameField p))) →
+    Every P (fieldChecks edition p len) →
+    Every P (dataChecks edition p)
+each-data P edition p start named fields =
+    let head = headChecks Four framing p in
+    let own = dataLayer.startChecks p (lengthOf p) (vectorOf Four p) in
+    let name = sourceNameChecks (nameField p) in
+    let rest = fieldChecks edition p (lengthOf p) in
+    every-++ P (head ++ own) (name ++ rest) start (λ a. every-++ P name rest (named (omega (arith, all-back head own a))) (λ b. fields))
+
 -- What is so of every check of each layer is so of every check of a datagram.
 pub each-check : (P : Refusal → Type 0) (d : List ℕ) →
     let r = rootPart d in
@@ -142,31 +158,39 @@ pub each-check : (P : Refusal → Type 0) (d : List ℕ) →
     let len = lengthOf p in
     let q = discoveryPart p len in
     Every P (preambleChecks d ++ rootChecks E2018 r) →
-    Every P (dataChecks E2018 p) →
+    Every P (headChecks Four framing p ++ dataLayer.startChecks p len (vectorOf Four p)) →
+    (70 ≤ length p → Every P (sourceNameChecks (nameField p))) →
+    Every P (fieldChecks E2018 p len) →
     Every P (headChecks Four framing p ++ kindChecks (length r) len (vectorOf Four p)) →
     Every P (synchronizationChecks p len) →
-    Every P (discoveryFraming.startChecks p len ++ sourceNameChecks (nameField p)) →
+    Every P (discoveryFraming.startChecks p len) →
     Every P (headChecks Four discovery q ++ discoveryLayer.ownChecks q (lengthOf q) (vectorOf Four q)) →
     P (refusal 1 universeList 0) →
     ((i : ℕ) → P (refusal 12 universeList (getD (universes (countIn (lengthOf q)) (listPart q)) i 0))) →
     Every P (packetChecks d)
-each-check P d outer values kind sync framed own short order =
+each-check P d outer start named fields kind sync framed own short order =
     let p = framingPart d in
+    let n = length (rootPart d) in
     let len = lengthOf p in
     let vec = vectorOf Four p in
     let q = discoveryPart p len in
     let listed = listChecks (listPart q) (countIn (lengthOf q)) in
     let layer = headChecks Four discovery q ++ discoveryLayer.ownChecks q (lengthOf q) (vectorOf Four q) in
-    let list : Every P listed = (short, every-pairs ascends P (universes (countIn (lengthOf q)) (listPart q)) (λ u i. (order i, tt))) in
-    let disc : Every P (discoveryFramingChecks p len) =
-    every-++ P (discoveryFraming.startChecks p len ++ sourceNameChecks (nameField p)) (layer ++ listed) framed (every-++ P layer listed own list) in
-    let n = length (rootPart d) in
+    let list : Every P listed =
+    (λ f. short, λ h. every-pairs ascends P (universes (countIn (lengthOf q)) (listPart q)) (λ u i. (λ f. order i, λ h. tt))) in
+    let begun = discoveryFraming.startChecks p len in
+    let name = sourceNameChecks (nameField p) in
     let body = choose (vec =? 1) (synchronizationChecks p len) (discoveryFramingChecks p len) in
+    every-++ P (preambleChecks d ++ rootChecks E2018 (rootPart d)) (framingChecks d) outer
+    (λ a.
+    let disc : Every P (discoveryFramingChecks p len) =
+    every-++ P begun (name ++ (layer ++ listed)) framed
+    (λ b. every-++ P name (layer ++ listed) (named (omega (arith, b))) (λ c. every-++ P layer listed own (λ e. list))) in
     let extended : Every P (extendedChecks n p) =
     every-++ P (headChecks Four framing p ++ kindChecks n len vec) body kind
-    (choice (Every P) (vec =? 1) (synchronizationChecks p len) (discoveryFramingChecks p len) (λ h. sync) (λ f. disc)) in
-    every-++ P (preambleChecks d ++ rootChecks E2018 (rootPart d)) (framingChecks d) outer
-    (choice (Every P) (rootVector d =? 4) (dataChecks E2018 p) (extendedChecks n p) (λ h. values) (λ f. extended))
+    (λ b. choice (Every P) (vec =? 1) (synchronizationChecks p len) (discoveryFramingChecks p len) (λ h. sync) (λ f. disc)) in
+    choice (Every P) (rootVector d =? 4) (dataChecks E2018 p) (extendedChecks n p)
+    (λ h. each-data P E2018 p start named fields) (λ f. extended))
 
 -- What is so of every check's refusal, and of the record of each kind, is so of the answer.
 pub each-answer : (P : Packet → Type 0) (d : List ℕ) →
@@ -183,35 +207,49 @@ each-answer P d checks values sync disc =
     (choice P (rootVector d =? 4) (Data (dataRecord p)) (extendedRecord p) (λ h. values)
     (λ f. choice P (vectorOf Four p =? 1) (Synchronization (synchronizationRecord p)) (Discovery (discoveryRecord p)) (λ h. sync) (λ f. disc)))
 
--- All checks of a datagram tell what document 01's table has.
+-- What every check's refusal has, a refusal of the reader has.
+module _ (P : Refusal → Type 0) (d : List ℕ) where
+  abbrev Told : Packet → Type 0
+  Told (Data x) = Unit {0}
+  Told (Synchronization x) = Unit {0}
+  Told (Discovery x) = Unit {0}
+  Told (Refused r) = P r
+
+  pub refused-with : (r : Refusal) → Every P (packetChecks d) → packetOf d ≡ Refused r → P r
+  refused-with r all e =
+      let answer : Told (packetOf d) = each-answer Told d all tt tt tt in
+      rw e at answer
+
 abbrev Allowed : Refusal → Type 0
 Allowed r = Holds (allowed r)
 
+-- The checks of a name in its field, which both editions have, tell what document 01's table has.
+pub name-tabled : (p : List ℕ) → Every Allowed (sourceNameChecks (nameField p))
+name-tabled p =
+    every-named Allowed p (fact (allowed (refusal 6 framing 0)))
+    (λ n few g. bounded (allowed (refusal 7 framing n)) n 62 refl few)
+
+-- And so do all checks of a datagram.
 tabled : (d : List ℕ) → Every Allowed (packetChecks d)
 tabled d =
     let r = rootPart d in
     let p = framingPart d in
     let len = lengthOf p in
+    let vec = vectorOf Four p in
     let q = discoveryPart p len in
     let us = universes (countIn (lengthOf q)) (listPart q) in
     each-check Allowed d
     (computed allowed (preambleChecks d ++ rootChecks E2018 r) refl)
-    (computed allowed (dataChecks E2018 p) refl)
-    (computed allowed (headChecks Four framing p ++ kindChecks (length r) len (vectorOf Four p)) refl)
+    (computed allowed (headChecks Four framing p ++ dataLayer.startChecks p len vec) refl)
+    (λ room. name-tabled p)
+    (computed allowed (fieldChecks E2018 p len) refl)
+    (computed allowed (headChecks Four framing p ++ kindChecks (length r) len vec) refl)
     (computed allowed (synchronizationChecks p len) refl)
-    (computed allowed (discoveryFraming.startChecks p len ++ sourceNameChecks (nameField p)) refl)
+    (computed allowed (discoveryFraming.startChecks p len) refl)
     (computed allowed (headChecks Four discovery q ++ discoveryLayer.ownChecks q (lengthOf q) (vectorOf Four q)) refl)
     (fact (allowed (refusal 1 universeList 0)))
     (λ i. fact (allowed (refusal 12 universeList (getD us i 0))))
 
-abbrev Told : Packet → Type 0
-Told (Data x) = Unit {0}
-Told (Synchronization x) = Unit {0}
-Told (Discovery x) = Unit {0}
-Told (Refused r) = Allowed r
-
--- A refusal has a number and a place of document 01's table, and the value 0 where the table names none.
+-- A refusal has a number and a place of document 01's table, the value 0 where the table names none, and at most 62 for 7.
 pub refusals : (d : List ℕ) (r : Refusal) → packetOf d ≡ Refused r → Holds (allowed r)
-refusals d r e =
-    let answer : Told (packetOf d) = each-answer Told d (tabled d) tt tt tt in
-    rw e at answer
+refusals d r e = refused-with Allowed d r (tabled d) e

@@ -1,4 +1,5 @@
--- Document 01's table, for reading: the places at which each number is told, and the numbers that carry no value.
+-- Document 01's table, for reading: the places at which each number is told, and the numbers that carry no value. A name that is no UTF-8 has at
+-- most 63 bytes before its zero, and fewer of them are good.
 use Prim.Native.Nat.{ℕ}
 use Rattle.refusal.specs.declared.Refusal.{Refusal}
 use Rattle.refusal.specs.Check.{Test, _≤?_, _=?_, _and_, _or_, preamble, root, framing, dmp, discovery, universeList}
@@ -11,7 +12,7 @@ told number place value =
     or number =? 4 and root ≤? place and place ≤? discovery
     or number =? 5 and (place =? framing or place =? discovery)
     or number =? 6 and place =? framing and value =? 0
-    or number =? 7 and place =? framing and value =? 0
+    or number =? 7 and place =? framing and value ≤? 62
     or number =? 8 and place =? framing
     or number =? 9 and place =? framing
     or number =? 10 and place =? framing

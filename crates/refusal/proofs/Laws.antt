@@ -29,10 +29,10 @@ refusalAt k [] = refusal 0 0 0
 refusalAt zero (c ∷ cs) = c .otherwise
 refusalAt (suc k) (c ∷ cs) = refusalAt k cs
 
--- every check's refusal has a property
+-- every check's refusal has a property, wherever that check is the first to fail
 abbrev pub Every : (Refusal → Type 0) → List Check → Type 0
 Every P [] = Unit {0}
-Every P (c ∷ cs) = P (c .otherwise) × Every P cs
+Every P (c ∷ cs) = (Fails (c .test) → P (c .otherwise)) × (Holds (c .test) → Every P cs)
 
 -- a list holds whole, or one of its checks decides
 pub decides : (cs : List Check) → All cs ⊎ ((k : ℕ) × Stops k cs)
@@ -81,11 +81,12 @@ module _ {A : Type 0} (refused : Refusal → A) where
   pub always : (P : A → Type 0) (cs : List Check) (next : A) → Every (λ (r : Refusal). P (refused r)) cs → P next → P (reading refused cs next)
   unfolding reading
   always P [] next e p = p
-  always P (c ∷ cs) next e p = by (outcome (c .test)) (always P cs next (e .1) p)
+  always P (c ∷ cs) next e p = by (outcome (c .test)) (fact (c .test)) (λ h. always P cs next (e .1 h) p)
     where
-      by : (o : Bool) → P (reading refused cs next) → P (pick o (reading refused cs next) (refused (c .otherwise)))
-      by true rest = rest
-      by false rest = e .0
+      by : (o : Bool) → Fact o (c .test) → (Holds (c .test) → P (reading refused cs next)) →
+          P (pick o (reading refused cs next) (refused (c .otherwise)))
+      by true h rest = rest h
+      by false f rest = e .0 f
 
 -- The code's answers. Check k refuses; all hold; and the same where the answer is known by an equation.
 pub stop : {A : Type 0} (k : ℕ) (refused : Refusal → A) (cs : List Check) (next : A) {x : A} → Stops k cs → x ≡ refused (refusalAt k cs) → x ≡ reading refused cs next
@@ -169,10 +170,15 @@ pub all-back : (cs ds : List Check) → All (cs ++ ds) → All ds
 all-back [] ds h = h
 all-back (c ∷ cs) ds h = all-back cs ds (h .1)
 
--- every check of two lists, joined
-pub every-++ : (P : Refusal → Type 0) (cs ds : List Check) → Every P cs → Every P ds → Every P (cs ++ ds)
-every-++ P [] ds h k = k
-every-++ P (c ∷ cs) ds h k = (h .0, every-++ P cs ds (h .1) k)
+-- every check of two lists, joined: the second is asked where the first holds
+pub every-++ : (P : Refusal → Type 0) (cs ds : List Check) → Every P cs → (All cs → Every P ds) → Every P (cs ++ ds)
+every-++ P [] ds h k = k tt
+every-++ P (c ∷ cs) ds h k = (h .0, λ t. every-++ P cs ds (h .1 t) (λ a. k (t, a)))
+
+-- what follows of a property of every check's refusal
+pub every-map : (P Q : Refusal → Type 0) → ((r : Refusal) → P r → Q r) → (cs : List Check) → Every P cs → Every Q cs
+every-map P Q f [] h = tt
+every-map P Q f (c ∷ cs) h = (λ k. f (c .otherwise) (h .0 k), λ t. every-map P Q f cs (h .1 t))
 
 -- a test of every check's refusal, of those that are told by name, is computed
 abbrev pub every : (Refusal → Test) → List Check → Bool
@@ -184,6 +190,6 @@ computed t [] e = tt
 computed t (c ∷ cs) e = by (outcome (t (c .otherwise))) (fact (t (c .otherwise))) (computed t cs) e
   where
     by : (o : Bool) → Fact o (t (c .otherwise)) → (every t cs ≡ true → Every (λ (r : Refusal). Holds (t r)) cs) →
-        pick o (every t cs) false ≡ true → Holds (t (c .otherwise)) × Every (λ (r : Refusal). Holds (t r)) cs
-    by true h rest e = (h, rest e)
+        pick o (every t cs) false ≡ true → Every (λ (r : Refusal). Holds (t r)) (c ∷ cs)
+    by true h rest e = (λ f. h, λ t. rest e)
     by false f rest e = let z : _≡_ {A = ℕ} 0 1 = cc in absurd (omega arith)

@@ -1,6 +1,6 @@
 -- A test's fact, and what its failure says, in forms that `omega` proves: an alternative is an implication. Assumes nothing.
 use Prim.Native.Nat.{ℕ, _≤_, _<_}
-use mathlib.Core.Path.{_≡_, refl}
+use mathlib.Core.Path.{_≡_, refl, ap, subst, _∙_}
 use mathlib.Core.Bool.{Bool, true, false, not}
 use native.Mathlib.Omega.{arith}
 use borrow.Author.Tests.{leb-true, leb-false, eqb-true, eqb-false}
@@ -73,6 +73,10 @@ settled t false false f g = refl
 -- and what decides it
 pub decided : (t : Test) (o : Bool) → Fact o t → outcome t ≡ o
 decided t o f = settled t (outcome t) o (fact t) f
+
+-- a test that computes to one bound, as a row of a table that is open in one number, holds within it
+pub bounded : (t : Test) (n most : ℕ) → outcome t ≡ pick (leb n most) true false → n ≤ most → Holds t
+bounded t n most e h = subst (λ (o : Bool). Fact o t) (e ∙ ap (λ (o : Bool). pick o true false) (decided (n ≤? most) true h)) (fact t)
 
 -- a choice by a test that holds, or fails
 pub chosen : {A : Type 0} (t : Test) (a b : A) {x : A} → Holds t → x ≡ a → x ≡ choose t a b

@@ -6,7 +6,9 @@ use native.Mathlib.Nat.{add-zero, zero-add, add-suc, suc-add}
 use native.Mathlib.Numerals.{add-one}
 use native.Mathlib.Omega.{arith}
 use lib.ListN.{length, take, drop, getD, set, replicate, length-drop, length-set, drop-of-length-le, List·getD-eq-default}
-use lib.Seq.{sets, sets-eq, set-out, take-suc, take-all, length-take-le, drop-cons, getD-drop}
+use lib.Seq.{sets, sets-eq, set-out, take-suc, take-all, take-length, length-take-le, drop-cons, getD-drop}
+use Rattle.refusal.specs.Check.{_≤?_}
+use Rattle.refusal.proofs.Tests.{decide}
 use Rattle.wire.specs.Fields.{byteAt, u16At, u32At}
 
 -- Fields past the end are zero.
@@ -35,6 +37,12 @@ drop-more s i h = rw (add-one i, drop-cons s i 0 h)
 -- A run up to the end, as `&s[k..]` has it.
 pub rest : (s : List ℕ) (k : ℕ) → take (length s - k) (drop k s) ≡ drop k s
 rest s k = take-all (length s - k) (drop k s) (omega (arith, length-drop k s))
+
+-- A front that is cut where the list ends, as `&s[0..least(s.len(), n)]` has it.
+pub take-least : (s : List ℕ) (n : ℕ) → take (min (length s) n) s ≡ take n s
+take-least s n =
+    decide (n ≤? length s) (λ h. let e : min (length s) n ≡ n = omega arith in rw e)
+    (λ f. let e : min (length s) n ≡ length s = omega arith in rw e (take-length s ∙ sym (take-all n s (omega arith))))
 
 -- Writing vs at i and then ws where vs ended is writing both, with no condition: past the end nothing is written.
 pub sets-append : (vs ws l : List ℕ) (i : ℕ) → sets l i (vs ++ ws) ≡ sets (sets l i vs) (i + length vs) ws

@@ -50,7 +50,8 @@ pub fn part(s: &[u8], start: usize, len: usize) -> &[u8]
     &s[start..start + len]
 }
 
-fn least(a: usize, b: usize) -> usize
+// The smaller of two numbers.
+pub fn least(a: usize, b: usize) -> usize
     ensures { λ r. ⌜ r ≡ min a b ⌝ }
 {
     if a < b { a } else { b }

@@ -17,7 +17,10 @@ const CID: [u8; 16] = [1, 2, 3, 4, 5, 6, 7, 8, 9, 10, 11, 12, 13, 14, 15, 16];
 fn put_answer(out: &mut [u8], at: usize, packed: Packed) -> usize {
     match packed {
         Packed::Length(n) => text::put_field(out, at, b": packed ", n as u64),
-        Packed::Refused(r) => text::put_field(out, at, b": refused ", r.number as u64),
+        Packed::Refused(r) => {
+            let at = text::put_field(out, at, b": refused ", r.number as u64);
+            text::put_field(out, at, b" value ", r.value as u64)
+        }
     }
 }
 
@@ -99,7 +102,8 @@ fn names_and_values() {
     data(b"(m) 513 values", 640, b"FOH", &values[0..513]);
     data(b"(m) 514 values", 640, b"FOH", &values);
     data(b"a name with a zero", 130, b"a\x00b", b"");
-    data(b"a malformed name", 130, b"\xc3", b"");
+    data(b"a malformed name", 130, b"FOH\xc3", b"");
+    discovery(b"disc, a malformed name", 130, b"FOH\xc3", &[1]);
     data(
         b"a name of 64 bytes and one byte too little",
         124,

@@ -37,6 +37,15 @@ pub fn declared(header: &str) -> Interface {
     interface
 }
 
+/// The refusals behind whose numbers a comment says what the value is.
+pub fn with_value(header: &str) -> Vec<String> {
+    let lines = header.lines().filter(|line| line.contains("/* value: "));
+    lines
+        .filter_map(|line| between(line, "#define LEDGERWREN_REFUSAL_", " "))
+        .map(|(name, _)| name.to_string())
+        .collect()
+}
+
 fn add_prototype(interface: &mut Interface, text: &str) {
     let (head, parameters) = text.split_once('(').expect("a prototype");
     let (name, result) = item(head).expect("a function's name");

@@ -1,6 +1,7 @@
 //! The declarations for C and for Rust are those of the Rattle sources. A linker sees only the names of
 //! the calls, so this test reads the three and compares each field and each parameter. It also sees to
-//! it that those names have another version where the layout is another.
+//! it that those names have another version where the layout is another, and that refusals have values
+//! where the definitions give them one.
 
 mod c;
 mod interface;
@@ -76,6 +77,30 @@ fn the_enums_have_the_numbers_of_the_refusals() {
     assert_eq!(rust::variants("Check"), checks);
     // Nowhere is no layer.
     assert_eq!(rust::variants("Layer"), in_rust(places)[1..]);
+}
+
+#[test]
+fn a_refusal_has_a_value_where_a_definition_gives_it_one() {
+    let definitions = rattle::definitions();
+    let defined = rattle::with_value(&definitions);
+    let (numbers, _) = rattle::numbers_and_places(&rattle::sources());
+    let told: Vec<_> = numbers.iter().map(|(_, number)| *number).collect();
+    assert_eq!(defined.keys().copied().collect::<Vec<_>>(), told);
+    // Range and copying are no reading or writing, and have no table.
+    let tabled = rattle::with_value_in_tables(&definitions);
+    let in_a_table: Vec<_> = told.into_iter().filter(|number| *number < 30).collect();
+    assert_eq!(tabled.keys().copied().collect::<Vec<_>>(), in_a_table);
+    for (number, has) in tabled {
+        assert_eq!(defined[&number], has, "the tables at {number}");
+    }
+    let in_c = c::with_value(c::header());
+    let (in_rust, described) = (rust::with_value(), rust::with_described_value());
+    for (name, number) in numbers {
+        let (has, check) = (defined[&number], camel(&name));
+        assert_eq!(in_c.contains(&name), has, "{name} in the header");
+        assert_eq!(in_rust[&check], has, "{check} in the table");
+        assert_eq!(described.contains(&check), has, "{check} in its comment");
+    }
 }
 
 #[test]

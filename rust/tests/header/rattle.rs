@@ -14,14 +14,25 @@ const FIRST_PLACE: &str = "NOWHERE";
 pub type Sources = BTreeMap<String, String>;
 
 pub fn sources() -> Sources {
+    files("src")
+}
+
+pub fn definitions() -> Sources {
+    files("specs")
+}
+
+/// The files of one folder of each crate.
+fn files(folder: &str) -> Sources {
     let crates = Path::new(env!("CARGO_MANIFEST_DIR")).join("../crates");
     let mut sources = Sources::new();
-    for folder in fs::read_dir(&crates).expect("the folder crates") {
-        let name = folder.expect("a folder of crates").file_name();
-        let src = crates.join(&name).join("src");
-        // A crate of theorems alone has no code.
-        for file in fs::read_dir(src).into_iter().flatten() {
-            let file = file.expect("a file of src").path();
+    for entry in fs::read_dir(&crates).expect("the folder crates") {
+        let name = entry.expect("a folder of crates").file_name();
+        // Not every crate has both folders.
+        for file in fs::read_dir(crates.join(&name).join(folder))
+            .into_iter()
+            .flatten()
+        {
+            let file = file.expect("a file of a crate").path();
             let text = fs::read_to_string(&file).expect("a source file");
             let short = file.file_name().expect("a file's name");
             sources.insert(
@@ -31,6 +42,41 @@ pub fn sources() -> Sources {
         }
     }
     sources
+}
+
+/// The numbers that the checks of definitions tell, `check (test) (refusal number place value)`, and
+/// whether their value is any but 0.
+pub fn with_value(definitions: &Sources) -> BTreeMap<u32, bool> {
+    let mut told = BTreeMap::new();
+    let checks = definitions
+        .values()
+        .flat_map(|text| text.split("check (").skip(1));
+    for check in checks {
+        // A refusal that a theorem names stands behind no test.
+        let Some((_, refusal)) = check.split_once(") (refusal ") else {
+            continue;
+        };
+        let mut words = refusal.splitn(3, ' ');
+        let Some(number) = words.next().and_then(|word| word.parse().ok()) else {
+            continue;
+        };
+        let value = words.nth(1).expect("a refusal's value");
+        let has = !value.starts_with("0)");
+        let before = told.insert(number, has).unwrap_or(has);
+        assert_eq!(before, has, "one check of {number} has a value, one not");
+    }
+    told
+}
+
+/// The same by the tables of reading and writing: rows like `number =? 6 and .. and value =? 0`.
+pub fn with_value_in_tables(definitions: &Sources) -> BTreeMap<u32, bool> {
+    let tables = ["packet/Table.antt", "pack/Table.antt"].map(|name| &definitions[name]);
+    let rows = tables.into_iter().flat_map(|text| text.lines());
+    rows.filter_map(|row| {
+        let (number, rest) = between(row, "number =? ", " ")?;
+        Some((number.parse().ok()?, !rest.contains("value =? 0")))
+    })
+    .collect()
 }
 
 /// The refusals' numbers and the places, by their names in the crate `refusal`.

@@ -3,6 +3,7 @@
 use crate::interface::{Interface, TYPE_PREFIX};
 use crate::syntax::{between, c_type, constants, in_c, repr_c_structs, typed_names};
 use crate::syntax::{without_comments, Constants};
+use std::collections::BTreeMap;
 
 const BOUNDARY: &str = include_str!("../../src/ffi.rs");
 const REFUSAL: &str = include_str!("../../src/refusal.rs");
@@ -33,6 +34,29 @@ pub fn declared(boundary: &str) -> Interface {
 
 pub fn kinds() -> Constants {
     constants(BOUNDARY)
+}
+
+/// The checks of refusal.rs, and whether its table says that they have a value.
+pub fn with_value() -> BTreeMap<String, bool> {
+    let (table, _) = between(REFUSAL, "static CHECKS", "\n];").expect("the table");
+    let rows = table.split("Check::").skip(1);
+    rows.map(|row| {
+        let (check, _) = row.split_once(',').expect("a check's name");
+        let (value, _) = between(row, "Value::", ",").expect("what its value is");
+        (check.to_string(), value != "Nothing")
+    })
+    .collect()
+}
+
+/// The checks whose comment says what their value is.
+pub fn with_described_value() -> Vec<String> {
+    let (body, _) = between(REFUSAL, "pub enum Check {", "\n}").expect("the enum");
+    let variants = body.split_inclusive(" = ");
+    variants
+        .filter(|text| text.contains("Its value:"))
+        .filter_map(|text| text.split_whitespace().rev().nth(1))
+        .map(str::to_string)
+        .collect()
 }
 
 /// The variants of an enum of refusal.rs and their numbers.

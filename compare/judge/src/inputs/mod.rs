@@ -30,6 +30,7 @@ pub fn datagrams(sink: &mut dyn FnMut(Vec<u8>)) {
     bytes::vectors(sink);
     bytes::boundaries(sink);
     names::fields(sink);
+    names::broken(sink);
     names::sequences(sink);
     lists::universes(sink);
     lists::layer_lengths(sink);

@@ -21,6 +21,17 @@ pub const CHARACTERS: [&str; 8] = [
     "\u{10ffff}",
 ];
 
+/// Names that are not UTF-8, each in its way: a character cut by another byte or by the end, a surrogate,
+/// a byte that begins none.
+pub const BROKEN: [&[u8]; 6] = [
+    b"\xc3\x28",
+    b"a\xc3",
+    b"ab\xed\xa0\x80",
+    b"\xe2\x82\xac\xc0",
+    b"\xf0\x9f\x92",
+    b"\xff",
+];
+
 /// The first 64 bytes as the name field of a data and of a discovery packet.
 fn put(bytes: &[u8], sink: &mut dyn FnMut(Vec<u8>)) {
     for record in [samples::data(b"", 1), samples::discovery(b"", 1)] {
@@ -55,6 +66,22 @@ pub fn fields(sink: &mut dyn FnMut(Vec<u8>)) {
     for byte in EDGES {
         put(&[byte; 64], sink);
         put(&[byte; 63], sink);
+    }
+}
+
+/// Malformed names behind fronts of each length. After the zero: zeros, bytes that could go on with a
+/// character, bytes that never could.
+pub fn broken(sink: &mut dyn FnMut(Vec<u8>)) {
+    for bytes in BROKEN {
+        for before in 0..=63 - bytes.len() {
+            for rubbish in [0, 0x80, 0xff] {
+                let mut field = vec![b'n'; before];
+                field.extend(bytes);
+                field.push(0);
+                field.resize(64, rubbish);
+                put(&field, sink);
+            }
+        }
     }
 }
 

@@ -1,6 +1,6 @@
 //! Records to write.
 
-use super::names::{CHARACTERS, EDGES};
+use super::names::{BROKEN, CHARACTERS, EDGES};
 use super::{samples, Sink};
 use crate::record::Record;
 use crate::request::Request;
@@ -37,7 +37,8 @@ fn put(name: &[u8], sink: &mut Sink) {
     }
 }
 
-/// Names of each length with each kind of character last, whole and broken; names with a zero.
+/// Names of each length with each kind of character last, whole and broken; malformed names; names with a
+/// zero.
 pub fn names(sink: &mut Sink) {
     for character in CHARACTERS {
         for before in (0..=70).chain([127, 128, 200, 251]) {
@@ -45,6 +46,12 @@ pub fn names(sink: &mut Sink) {
             name.extend(character.as_bytes());
             put(&name, sink);
             name.pop();
+            put(&name, sink);
+        }
+    }
+    for bytes in BROKEN {
+        for before in 0..=63 {
+            let name = [&vec![b'n'; before][..], bytes].concat();
             put(&name, sink);
         }
     }

@@ -3,13 +3,14 @@ use mathlib.Core.List.{List}
 use mathlib.Core.Path.{_≡_, refl, sym, _∙_}
 use native.Mathlib.Omega.{arith}
 use borrow.Author.Needs.{needs}
+use denote.Ref.{now}
 use Rattle.refusal.specs.Check.{reading}
 use Rattle.refusal.proofs.Laws.{stop, pass, inner-first, by-answer}
-use Rattle.name.specs.Name.{zeroAt, sourceNameChecks, sourceNameOf}
+use Rattle.name.specs.Name.{nameField, zeroAt, sourceNameChecks, sourceNameOf}
 use Rattle.name.specs.declared.SourceName.{SourceName}
 use Rattle.name.specs.declared.SourceName.the-variants as source
+use Rattle.name.proofs.Laws.{name-found}
 use Rattle.framing.specs.Data.{startChecks, fieldChecks, layerOf, bodyOf, afterName}
-use Rattle.name.specs.Name.{nameField}
 use Rattle.pdu.specs.declared.Edition.{Edition}
 use Rattle.framing.specs.declared.Data.{Data}
 use Rattle.framing.specs.declared.Data.the-variants.{Refused}
@@ -70,19 +71,25 @@ enum-known-len c = search needs
 parse-fields-requires : tie.Need-parse-fields-requires
 parse-fields-requires c κs = search needs
 
+-- the layer's part, and what was found in its name's field
+abbrev part : tie.After-parse-source-name-str → List ℕ
+part c = now (c .before .before .before .before .before .before .args .p)
+
+found : (c : tie.After-parse-source-name-str) {y : SourceName} → c .parse-source-name-str .result ≡ y → sourceNameOf (nameField (part c)) ≡ y
+found c e = name-found (part c) (c .parse-source-name-str .ensures) e
+
 returns-4 : tie.Need-returns-4
 returns-4 c =
     let known = c .before in
     pass _ _ _ (omega arith)
-    (by-answer (after _ _ _) (sourceNameOf _) (source.Refused _) (sym (known .before .before .parse-source-name-str .ensures) ∙ known .r .given .1) refl)
+    (by-answer (after _ _ _) (sourceNameOf _) (source.Refused _) (found (known .before .before) (known .r .given .1)) refl)
     ∙ sym (by-name _ _ _ _)
 
 returns-5 : tie.Need-returns-5
 returns-5 c =
     let known = c .before .before in
     pass _ _ _ (omega arith)
-    (by-answer (after _ _ _) (sourceNameOf _) (source.Text _) (sym (known .before .before .parse-source-name-str .ensures) ∙ known .len .given .1)
-    (c .parse-fields .ensures))
+    (by-answer (after _ _ _) (sourceNameOf _) (source.Text _) (found (known .before .before) (known .len .given .1)) (c .parse-fields .ensures))
     ∙ sym (by-name _ _ _ _)
 
 pub parse-body-spec : {M : Type 1} → statement M

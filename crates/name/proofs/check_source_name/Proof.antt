@@ -7,6 +7,7 @@ use lib.ListN.{length}
 use Rattle.refusal.proofs.Laws.{stop, pass}
 use Rattle.refusal.specs.Check.{checkedOf}
 use Rattle.name.specs.Plain.{plainRun}
+use Rattle.name.proofs.Longest.{told-within}
 use Rattle.name.proofs.Runs.{plain-whole}
 use Rattle.name.proofs.check_source_name.Statement.{statement}
 use Rattle.name.proofs.check_source_name.Tie as tie
@@ -41,12 +42,12 @@ returns-3 c = stop 1 _ _ _ (omega arith) (rw (c .new2 .ensures))
 whole-characters-requires : tie.Need-whole-characters-requires
 whole-characters-requires c κs = search needs
 
-new-requires-3 : tie.Need-new-requires-3
-new-requires-3 c κs = search needs
+malformed-requires : tie.Need-malformed-requires
+malformed-requires c κs = omega (arith, told-within _ (c .before .whole-characters .ensures))
 
 returns-4 : tie.Need-returns-4
 unfolding checkedOf
-returns-4 c = stop 2 _ _ _ (omega arith) (rw (c .new3 .ensures))
+returns-4 c = stop 2 _ _ _ (omega arith) (rw (c .malformed .ensures, c .before .before .whole-characters .ensures))
 
 returns-5 : tie.Need-returns-5
 unfolding checkedOf
@@ -64,6 +65,6 @@ check-source-name-spec =
     new-requires-2
     returns-3
     whole-characters-requires
-    new-requires-3
+    malformed-requires
     returns-4
     returns-5)

@@ -1,90 +1,40 @@
-use mathlib.Core.Path.{_≡_, sym, _∙_}
+use mathlib.Core.Path.{ap, _∙_}
 use native.Mathlib.Nat.{sub-zero}
-use native.Mathlib.Omega.{arith}
 use borrow.Author.Needs.{needs}
 use denote.Ref.{now}
-use lib.ListN.{length}
-use Rattle.refusal.proofs.Laws.{stop, pass}
-use Rattle.name.specs.Utf8.{wholeChars}
-use Rattle.name.specs.Name.{textOf, sourceNameOf}
-use Rattle.name.proofs.Laws.{text-length}
-use Rattle.name.proofs.Runs.{plain-text}
+use Rattle.wire.proofs.Laws.{take-least}
+use Rattle.name.specs.Name.{sourceNameOf}
 use Rattle.name.proofs.parse_source_name_str.Statement.{statement}
 use Rattle.name.proofs.parse_source_name_str.Tie as tie
 
--- what was tested is the text, and its length is the place of the zero
-text-is : (c : tie.After-whole-characters) →
-    let zero = c .before .before .before in
-    let text = textOf (now (zero .before .before .before .before .args .field)) in
-    (c .whole-characters .result ≡ wholeChars text) × (zero .zero-at .result ≡ length text)
-text-is c =
-    let zero = c .before .before .before in
-    let field = now (zero .before .before .before .before .args .field) in
-    (c .whole-characters .ensures ∙ rw (sub-zero, zero .zero-at .ensures), zero .zero-at .ensures ∙ sym (text-length field))
+least-requires : tie.Need-least-requires
+least-requires c κs = search needs
 
-plain-run-requires : tie.Need-plain-run-requires
-plain-run-requires c κs = search needs
+sub-name-in : tie.Need-sub-name-in
+sub-name-in c = search needs
 
-shared-slice-read-if2 : tie.Need-shared-slice-read-if2
-shared-slice-read-if2 c = omega arith
+part-name-in-start : tie.Need-part-name-in-start
+part-name-in-start c = search needs
+
+part-name-in-end : tie.Need-part-name-in-end
+part-name-in-end c = search needs
+
+name-in-requires : tie.Need-name-in-requires
+name-in-requires c κs = search needs
 
 returns : tie.Need-returns
-unfolding sourceNameOf
 returns c =
-    let s = now (c .before .before .before .before .before .args .field) in
-    let run = c .before .before .before .plain-run in
-    let t = plain-text s (run .result) (run .ensures) (omega arith) (omega arith) in
-    pass _ _ _ (omega (arith, t .0, t .1)) (rw (t .0))
-
-zero-at-requires : tie.Need-zero-at-requires
-zero-at-requires c κs = search needs
-
-new-requires : tie.Need-new-requires
-new-requires c κs = search needs
-
-returns-2 : tie.Need-returns-2
-unfolding sourceNameOf
-returns-2 c = stop 0 _ _ _ (omega arith) (rw (c .new .ensures))
-
-sub-whole-characters : tie.Need-sub-whole-characters
-sub-whole-characters c = search needs
-
-part-whole-characters-start : tie.Need-part-whole-characters-start
-part-whole-characters-start c = search needs
-
-part-whole-characters-end : tie.Need-part-whole-characters-end
-part-whole-characters-end c = search needs
-
-whole-characters-requires : tie.Need-whole-characters-requires
-whole-characters-requires c κs = search needs
-
-new-requires-2 : tie.Need-new-requires-2
-new-requires-2 c κs = search needs
-
-returns-3 : tie.Need-returns-3
-unfolding sourceNameOf
-returns-3 c = stop 1 _ _ _ (omega (arith, text-is (c .before .before))) (rw (c .new2 .ensures))
-
-returns-4 : tie.Need-returns-4
-unfolding sourceNameOf
-returns-4 c =
-    let zero = c .before .before .before .before in
-    pass _ _ _ (omega (arith, text-is (c .before))) (rw (zero .zero-at .ensures))
+    let cut = c .before .before in
+    let s = now (cut .before .before .args .field) in
+    c .name-in .ensures ∙ ap sourceNameOf (rw (sub-zero, cut .least .ensures) (take-least s 64))
 
 pub parse-source-name-str-spec : {M : Type 1} → statement M
 parse-source-name-str-spec =
     tie.close
     (tie.spec
-    plain-run-requires
-    shared-slice-read-if2
-    returns
-    zero-at-requires
-    new-requires
-    returns-2
-    sub-whole-characters
-    part-whole-characters-start
-    part-whole-characters-end
-    whole-characters-requires
-    new-requires-2
-    returns-3
-    returns-4)
+    least-requires
+    sub-name-in
+    part-name-in-start
+    part-name-in-end
+    name-in-requires
+    returns)

@@ -3,16 +3,17 @@ use mathlib.Core.List.{List}
 use mathlib.Core.Path.{_≡_, refl, sym, ap, _∙_}
 use native.Mathlib.Omega.{arith}
 use borrow.Author.Needs.{needs}
+use denote.Ref.{now}
 use Rattle.refusal.specs.Check.{reading}
 use Rattle.refusal.proofs.Laws.{stop, pass, inner, inner-first, by-answer}
-use Rattle.name.specs.Name.{zeroAt, sourceNameChecks, sourceNameOf}
+use Rattle.name.specs.Name.{nameField, zeroAt, sourceNameChecks, sourceNameOf}
 use Rattle.name.specs.declared.SourceName.{SourceName}
 use Rattle.name.specs.declared.SourceName.the-variants as source
+use Rattle.name.proofs.Laws.{name-found}
 use Rattle.pdu.specs.Head.{lengthOf}
 use Rattle.discovery.specs.Layer.{discoveryOf, discoveryChecks, layerOf as pageOf}
 use Rattle.discovery.specs.declared.Discovery.{Discovery}
 use Rattle.discovery.specs.declared.Discovery.the-variants as discovery
-use Rattle.name.specs.Name.{nameField}
 use Rattle.extended.specs.UniverseDiscovery.{startChecks, discoveryFramingOf, discoveryPart, layerNamed}
 use Rattle.extended.specs.declared.«universe_discovery».DiscoveryFraming.{DiscoveryFraming}
 use Rattle.extended.specs.declared.«universe_discovery».DiscoveryFraming.the-variants.{Layer, Refused}
@@ -67,11 +68,18 @@ parse-source-name-str-requires c κs = search needs
 enum-known-r : tie.Need-enum-known-r
 enum-known-r c = search needs
 
+-- the layer's part, and what was found in its name's field
+abbrev part : tie.After-parse-source-name-str → List ℕ
+part c = now (c .before .before .before .before .before .args .p)
+
+found : (c : tie.After-parse-source-name-str) {y : SourceName} → c .parse-source-name-str .result ≡ y → sourceNameOf (nameField (part c)) ≡ y
+found c e = name-found (part c) (c .parse-source-name-str .ensures) e
+
 returns-3 : tie.Need-returns-3
 returns-3 c =
     let named = c .before in
     pass _ _ _ (omega arith)
-    (by-answer (after-name _) (sourceNameOf _) (source.Refused _) (sym (named .before .before .parse-source-name-str .ensures) ∙ named .r .given .1) refl)
+    (by-answer (after-name _) (sourceNameOf _) (source.Refused _) (found (named .before .before) (named .r .given .1)) refl)
     ∙ sym (by-name _ _)
 
 enum-known-len : tie.Need-enum-known-len
@@ -102,7 +110,7 @@ returns-4 c =
     let named = read .before .before .before in
     let n = named .len .given .0 .0 in
     pass _ _ _ (omega arith)
-    (by-answer (after-name _) (sourceNameOf _) (source.Text n) (sym (named .before .before .parse-source-name-str .ensures) ∙ named .len .given .1)
+    (by-answer (after-name _) (sourceNameOf _) (source.Text n) (found (named .before .before) (named .len .given .1))
     (by-answer (after-list n) (discoveryOf _) (discovery.Refused _) (sym (read .parse .ensures) ∙ known .r2 .given .1) refl))
     ∙ sym (by-name _ _)
 
@@ -113,7 +121,7 @@ returns-5 c =
     let named = read .before .before .before in
     let n = named .len .given .0 .0 in
     pass _ _ _ (omega arith)
-    (by-answer (after-name _) (sourceNameOf _) (source.Text n) (sym (named .before .before .parse-source-name-str .ensures) ∙ named .len .given .1)
+    (by-answer (after-name _) (sourceNameOf _) (source.Text n) (found (named .before .before) (named .len .given .1))
     (by-answer (after-list n) (discoveryOf _) (discovery.Universes _ _) (sym (read .parse .ensures) ∙ known .fields .given .1) refl))
     ∙ sym (by-name _ _)
 
