@@ -23,7 +23,7 @@ install_packages() { # PACKAGE...
 # Copies our projects to the build folder, where cargo may write, and sets the words for cargo.
 prepare_rust() { # SOURCES
     local f
-    for f in packet.rs error.rs sacn_parse_pack_error.rs; do
+    for f in packet.rs error.rs sacn_parse_pack_error.rs receive.rs; do
         [ -f "$1/$f" ] || die "$1 has no $f: SOURCES is the folder of the crate's sources"
     done
     command -v cargo >/dev/null || die "cargo and rustc are needed"

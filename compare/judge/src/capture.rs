@@ -15,8 +15,50 @@ pub fn write_entry(out: &mut impl Write, entry: &[u8]) -> io::Result<()> {
     out.write_all(entry)
 }
 
+/// A whole capture of these entries.
+pub fn of(entries: &[Vec<u8>]) -> Vec<u8> {
+    let mut capture = Vec::new();
+    for entry in entries {
+        write_entry(&mut capture, entry).expect("a vector takes every byte");
+    }
+    capture
+}
+
+/// How a capture ends, as document 01's last line has it.
+pub struct Last {
+    pub word: &'static str,
+    pub whole: u64,
+}
+
+impl Last {
+    pub fn write(&self, out: &mut impl Write) -> io::Result<()> {
+        writeln!(out, "{} {}", self.word, self.whole)
+    }
+}
+
+/// Hands each whole entry and its number, from 1, to `take`.
+pub fn each_entry(
+    input: impl Read,
+    mut take: impl FnMut(u64, &[u8]) -> io::Result<()>,
+) -> io::Result<Last> {
+    let mut reader = Reader::new(input);
+    let mut whole = 0;
+    let word = loop {
+        match reader.read_entry()? {
+            Next::Entry(entry) => {
+                whole += 1;
+                take(whole, entry)?;
+            }
+            Next::End => break "end",
+            Next::Cut => break "cut",
+            Next::Bad => break "bad",
+        }
+    };
+    Ok(Last { word, whole })
+}
+
 /// What comes next in a capture.
-pub enum Next<'a> {
+enum Next<'a> {
     Entry(&'a [u8]),
     End,
     /// The input stops inside an entry or its length.
@@ -26,7 +68,7 @@ pub enum Next<'a> {
 }
 
 /// Holds one entry at a time.
-pub struct Reader<R> {
+struct Reader<R> {
     input: R,
     entry: [u8; LIMIT],
 }
@@ -39,12 +81,12 @@ enum Length {
 }
 
 impl<R: Read> Reader<R> {
-    pub fn new(input: R) -> Reader<R> {
+    fn new(input: R) -> Reader<R> {
         let entry = [0; LIMIT];
         Reader { input, entry }
     }
 
-    pub fn read_entry(&mut self) -> io::Result<Next<'_>> {
+    fn read_entry(&mut self) -> io::Result<Next<'_>> {
         let length = match self.length()? {
             Length::Of(length) => length,
             Length::End => return Ok(Next::End),

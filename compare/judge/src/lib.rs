@@ -1,7 +1,10 @@
 //! The crate sacn as the judge of our packet programs: what it is asked, and what it answers.
 
+pub mod beside;
 pub mod capture;
 pub mod dump;
+pub mod follow;
+pub mod follow_tally;
 pub mod inputs;
 pub mod kinds;
 pub mod oracle;

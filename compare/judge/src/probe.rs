@@ -1,7 +1,8 @@
-//! Asks our own program: it gets a capture of requests and answers one line each.
+//! Asks our own programs: the probe gets a capture of requests and answers one line each, another one a
+//! capture of any kind.
 
 use crate::capture;
-use std::io::{self, BufWriter, Error, Read, Write};
+use std::io::{self, BufWriter, Error, ErrorKind, Read, Write};
 use std::process::{Child, ChildStdin, Command, Stdio};
 use std::thread;
 
@@ -11,6 +12,26 @@ pub struct Probe(pub Vec<String>);
 impl Probe {
     /// The lines for the requests, each without its number, which is checked.
     pub fn ask(&self, requests: &[Vec<u8>]) -> io::Result<Vec<String>> {
+        let (sent, text) = self.serve(|input| send(input, requests))?;
+        sent?;
+        numbered(&text, requests.len())
+    }
+
+    /// All that the program says to a capture. It may stop before the capture's end, at a bad length.
+    pub fn feed(&self, capture: &[u8]) -> io::Result<String> {
+        let (sent, text) = self.serve(|mut input| input.write_all(capture))?;
+        match sent {
+            Err(e) if e.kind() != ErrorKind::BrokenPipe => Err(e),
+            _ => Ok(text),
+        }
+    }
+
+    /// Starts the program, has it sent its input and takes all its output; how the sending went is told
+    /// beside that.
+    fn serve(
+        &self,
+        send: impl FnOnce(ChildStdin) -> io::Result<()> + Send,
+    ) -> io::Result<(io::Result<()>, String)> {
         let mut child = Command::new(&self.0[0])
             .args(&self.0[1..])
             .stdin(Stdio::piped())
@@ -19,17 +40,16 @@ impl Probe {
         let input = child.stdin.take().expect("standard input is a pipe");
         // Both pipes are served at once: a program that writes before it has read all would stop.
         let (sent, text) = thread::scope(|scope| {
-            let writer = scope.spawn(|| send(input, requests));
+            let writer = scope.spawn(|| send(input));
             let text = receive(&mut child);
             (writer.join().expect("the writer ends"), text)
         });
         // A program that fell explains a broken pipe, so its status is told first.
         let status = child.wait()?;
         if !status.success() {
-            return Err(Error::other(format!("the probe ended with {status}")));
+            return Err(Error::other(format!("the program ended with {status}")));
         }
-        sent?;
-        numbered(&text?, requests.len())
+        Ok((sent, text?))
     }
 }
 

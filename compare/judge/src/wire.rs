@@ -27,6 +27,11 @@ pub const UNIVERSES: usize = 120;
 pub const ROOT_DATA: u32 = 4;
 pub const ROOT_EXTENDED: u32 = 8;
 
+/// The bits of a data packet's options.
+pub const PREVIEW: u8 = 0x80;
+pub const TERMINATED: u8 = 0x40;
+pub const FORCE: u8 = 0x20;
+
 pub fn get16(bytes: &[u8], at: usize) -> u16 {
     u16::from_be_bytes([bytes[at], bytes[at + 1]])
 }

@@ -7,7 +7,7 @@ use native.Mathlib.Omega.{arith}
 use lib.ListN.{length, take, drop, getD, set, length-take, length-drop, length-append}
 use lib.Seq.{sets, length-sets, take-at, take-add, take-nil, length-take-le, getD-drop, getD-set-other, drop-drop}
 use Rattle.refusal.specs.Check.{_≤?_}
-use Rattle.refusal.proofs.Tests.{chosen, passed-over, choice}
+use Rattle.refusal.proofs.Tests.{true-not-false, never, chosen, choice}
 use Rattle.wire.specs.Fields.{partOf}
 use Rattle.wire.proofs.Laws.{sets-more, sets-front}
 use Rattle.capture.specs.Entry.{frontOf}
@@ -21,7 +21,7 @@ use Rattle.capture_input.specs.declared.Next.the-variants.{Failed}
 use Rattle.capture_input.specs.declared.Unread.{Unread}
 use Rattle.standard_io.specs.declared.Said.{Said}
 use Rattle.standard_io.specs.declared.Said.the-variants.{Nothing, Bytes, End, Error}
-use Rattle.standard_io.proofs.Laws.{true-not-false, never, counted-on}
+use Rattle.standard_io.proofs.Laws.{counted-on}
 
 -- what stands behind bytes that are written stays
 behind : (vs l : List ℕ) (i j : ℕ) → i + length vs ≤ j → getD (sets l i vs) j 0 ≡ getD l j 0

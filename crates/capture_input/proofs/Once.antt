@@ -15,7 +15,7 @@ use Rattle.capture_input.specs.Entries.{waitsAt, stopped, Took, Because}
 use Rattle.standard_io.specs.declared.Said.{Said}
 use Rattle.capture_input.specs.declared.Next.{Next}
 use Rattle.capture_input.specs.declared.Next.the-variants.{Entry, Stop, Failed}
-use Rattle.standard_io.proofs.Laws.{never}
+use Rattle.refusal.proofs.Tests.{never}
 
 pub record Same (x y : Next) (left left' after after' : List ℕ) : Type 0 where
   pub next : x ≡ y

@@ -50,11 +50,17 @@ abbrev Written : Ended → Type 2
 Written T = (M : Type 1) (𝓤 : URA M) (H : Heap 𝓤) → Atoms 𝓤 → (Memory → SProp 𝓤) → (Routine → Fun 𝓤) → Clauses 𝓤 T
 
 module _ (T : Ended) (C : Written T) where
-  abbrev pub SettledBy : {B : Lfts (T .signature .lifetimes) → Type 0} → ((k : Lfts (T .signature .lifetimes)) → ResD (T .signature) k → B k) → Type 2
-  SettledBy seen =
+  -- what is seen of two results and of what is lent
+  abbrev pub SettledLent : {B : Lfts (T .signature .lifetimes) → Type 0} →
+      ((k : Lfts (T .signature .lifetimes)) → ResD (T .signature) k → AtExit T k → B k) → Type 2
+  SettledLent seen =
       (w : World) (k : Lfts (T .signature .lifetimes)) (a : ArgsD (T .signature) k) (r s : ResD (T .signature) k) (e f : AtExit T k) →
       let c = C (w .M) (w .𝓤) (w .H) (w .𝓖 .A) (w .𝓜 .mem) (w .𝓡 .run) k a in
-      (g h : c .ghost) → ent (w .𝓤) (sep (w .𝓤) (c .ensures g r e) (c .ensures h s f)) (fact (w .𝓤) (seen k r ≡ seen k s))
+      (g h : c .ghost) → ent (w .𝓤) (sep (w .𝓤) (c .ensures g r e) (c .ensures h s f)) (fact (w .𝓤) (seen k r e ≡ seen k s f))
+
+  -- of two results alone
+  abbrev pub SettledBy : {B : Lfts (T .signature .lifetimes) → Type 0} → ((k : Lfts (T .signature .lifetimes)) → ResD (T .signature) k → B k) → Type 2
+  SettledBy seen = SettledLent (λ k r e. seen k r)
 
 -- from two facts a third
 pub facts : {M : Type 1} (𝓤 : URA M) {φ ψ χ : Type 0} → (φ → ψ → χ) → ent 𝓤 (sep 𝓤 (fact 𝓤 φ) (fact 𝓤 ψ)) (fact 𝓤 χ)

@@ -28,5 +28,6 @@ pub mod Settled
 pub mod SettledText
 pub mod SettledSystem
 pub mod SettledEdge
+pub mod SettledFollower
 pub mod Exactly
 pub mod Definitions

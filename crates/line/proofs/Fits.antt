@@ -29,7 +29,7 @@ use Rattle.capture.specs.declared.Ending.{Ending}
 use Rattle.capture.specs.declared.Ending.the-variants.{End, Cut, Bad}
 
 -- the digits of a number that the code's types hold
-digits : (n : ℕ) → n < 0x1_0000_0000_0000_0000 → length (decimal n) ≤ 20
+pub digits : (n : ℕ) → n < 0x1_0000_0000_0000_0000 → length (decimal n) ≤ 20
 digits n h = decimal-length 19 n (omega arith)
 
 data-fields : (f : DataFields) → SizedData f → length (dataFieldsText f) ≤ 113
@@ -69,6 +69,9 @@ packet-fits n name (Discovery x) h k =
     simp length-append
     (omega (arith, digits n h, hex-length name, page-fields (x .fields) (k .0), digits (x .universes .len / 2) (omega arith)))
 packet-fits n name (Refused r) h k = simp length-append (omega (arith, digits n h, refusal-fields r k))
+
+pub refused-fits : (n : ℕ) (r : Refusal) → n < 0x1_0000_0000_0000_0000 → SizedRefusal r → length (refusedLine n r) ≤ 174
+refused-fits n r h k = packet-fits n [] (Refused r) h k
 
 part-fits : (d : List ℕ) (start len : ℕ) → length (partOf d start len) ≤ length d
 unfolding partOf

@@ -1,6 +1,6 @@
 -- A test's fact, and what its failure says, in forms that `omega` proves: an alternative is an implication. Assumes nothing.
 use Prim.Native.Nat.{ℕ, _≤_, _<_}
-use mathlib.Core.Path.{_≡_, refl, ap, subst, _∙_}
+use mathlib.Core.Path.{_≡_, refl, sym, ap, subst, _∙_}
 use mathlib.Core.Bool.{Bool, true, false, not}
 use native.Mathlib.Omega.{arith}
 use borrow.Author.Tests.{leb-true, leb-false, eqb-true, eqb-false}
@@ -56,6 +56,12 @@ or-fact s t true p f g = λ h. absurd (clash s f h)
 or-fact s t false true f g = λ h. g
 or-fact s t false false f g = (f, g)
 
+pub true-not-false : true ≡ false → ⊥
+true-not-false e = let z : _≡_ {A = ℕ} 0 1 = cc in omega arith
+
+pub never : {A : Type 0} → false ≡ true → A
+never e = absurd (true-not-false (sym e))
+
 -- what a test's outcome says
 pub fact : (t : Test) → Fact (outcome t) t
 fact (a ≤? b) = le-fact a b (leb a b) refl
@@ -73,6 +79,13 @@ settled t false false f g = refl
 -- and what decides it
 pub decided : (t : Test) (o : Bool) → Fact o t → outcome t ≡ o
 decided t o f = settled t (outcome t) o (fact t) f
+
+-- an outcome that is known
+pub holds : (t : Test) → outcome t ≡ true → Holds t
+holds t e = subst (λ (o : Bool). Fact o t) e (fact t)
+
+pub fails : (t : Test) → outcome t ≡ false → Fails t
+fails t e = subst (λ (o : Bool). Fact o t) e (fact t)
 
 -- a test that computes to one bound, as a row of a table that is open in one number, holds within it
 pub bounded : (t : Test) (n most : ℕ) → outcome t ≡ pick (leb n most) true false → n ≤ most → Holds t

@@ -10,7 +10,7 @@ use lib.IntN.{ℤ, pos, negsuc}
 use lib.Signed.{ltZ}
 use borrow.Author.Tests.{ltb-true}
 use Rattle.refusal.specs.Check.{_=?_}
-use Rattle.refusal.proofs.Tests.{chosen, passed-over, choice}
+use Rattle.refusal.proofs.Tests.{never, chosen, passed-over, choice}
 use Rattle.standard_io.specs.System.{counted, saidOf, reachedBy, Arrived}
 use Rattle.standard_io.specs.declared.Said.{Said}
 use Rattle.standard_io.specs.declared.Said.the-variants.{Nothing, Bytes, End, Error}
@@ -18,12 +18,6 @@ use Rattle.standard_io.specs.declared.Said.the-variants.{Nothing, Bytes,
 -- what stands before a part that was lent stays
 pub before-lent : (l m : List ℕ) (n : ℕ) → n ≤ length l → take n (take n l ++ (m ++ drop (length l - n) (drop n l))) ≡ take n l
 before-lent l m n h = take-at (take n l) (m ++ drop (length l - n) (drop n l)) n (length-take-le n l h)
-
-pub true-not-false : true ≡ false → ⊥
-true-not-false e = let z : _≡_ {A = ℕ} 0 1 = cc in omega arith
-
-pub never : {A : Type 0} → false ≡ true → A
-never e = absurd (true-not-false (sym e))
 
 -- a count goes on
 pub counted-on : (a x y : ℕ) → counted (counted a x) y ≡ counted a (x + y)

@@ -8,7 +8,7 @@ use native.Mathlib.Omega.{arith}
 use lib.ListN.{length, take, drop, length-drop, length-append}
 use lib.Seq.{sets, sets-eq, length-sets, length-take-le, take-at, drop-append-le, take-append-le}
 use Rattle.refusal.specs.Check.{_≤?_, choose}
-use Rattle.refusal.proofs.Tests.{chosen, passed-over, decide}
+use Rattle.refusal.proofs.Tests.{true-not-false, chosen, passed-over, decide}
 use Rattle.capture.specs.Entry.{frontOf}
 use Rattle.capture.specs.declared.Front.{Front}
 use Rattle.capture.specs.declared.Front.the-variants as front
@@ -18,7 +18,7 @@ use Rattle.capture.proofs.Laws.{entry-within}
 use Rattle.capture.proofs.More.{front-more}
 use Rattle.standard_io.specs.System.{counted}
 use Rattle.standard_io.specs.declared.Wrote.{Wrote}
-use Rattle.standard_io.proofs.Laws.{true-not-false, counted-on}
+use Rattle.standard_io.proofs.Laws.{counted-on}
 use Rattle.capture_input.specs.Entries.{stopped, Because}
 use Rattle.capture_input.specs.declared.Next.{Next}
 use Rattle.capture_input.specs.declared.Next.the-variants.{Entry, Stop, Failed}

@@ -1,15 +1,17 @@
 //! Makes captures.
 //!
-//! make-captures speed FOLDER: three large captures of good packets, to measure with.
-//! make-captures sample FOLDER: the fixed sample, sample.capture, and the lines expected of a dump
-//! of it, sample.lines. The lines are the crate's answers; `refusal` says how a place is found.
+//! make-captures speed FOLDER: large captures of good packets, to measure with: three for dump, and for
+//! follow one for each number of sources.
+//! make-captures sample FOLDER: the fixed sample of dump, sample.capture, and the lines expected of it,
+//! sample.lines, which are the crate's answers (`refusal` says how a place is found); and that of follow,
+//! follow.capture, with its lines by request 02's rules, follow.lines.
 
-use judge::inputs::{self, Draw};
+use judge::inputs::{self, script, Draw};
 use judge::random::Random;
 use judge::record::{Data, Discovery, Record, Sync};
 use judge::request::Request;
 use judge::tally::{met, Met};
-use judge::{capture, dump, oracle};
+use judge::{capture, dump, follow, oracle};
 use sacn::packet::AcnRootLayerProtocol;
 use std::collections::BTreeMap;
 use std::fs::File;
@@ -18,6 +20,10 @@ use std::panic;
 use std::path::Path;
 
 const NAME: &[u8] = b"Front of house, desk 1";
+
+/// The captures for follow: so many sources send in turn, so many packets in all. The crate's follower
+/// takes longer the more sources it keeps, so that many of them send fewer packets.
+const FOLLOWED: [(usize, usize); 3] = [(10, 200_000), (100, 100_000), (1000, 20_000)];
 
 fn create(folder: &Path, name: &str) -> io::Result<BufWriter<File>> {
     Ok(BufWriter::new(File::create(folder.join(name))?))
@@ -49,6 +55,15 @@ fn full_data(i: usize, random: &mut Random) -> Record {
     })
 }
 
+/// A packet with a start code alone, in order.
+fn small_data(i: usize, sources: usize) -> Record {
+    let number = (i / sources) as u8;
+    Record::Data(Data {
+        values: vec![0],
+        ..script::data(script::source(i % sources), number, 0)
+    })
+}
+
 fn full_discovery(i: usize, random: &mut Random) -> Record {
     let first = random.below(1000) as u16;
     Record::Discovery(Discovery {
@@ -69,7 +84,12 @@ fn speed(folder: &Path) -> io::Result<()> {
         })
     })?;
     packets(create(folder, "data.capture")?, 200_000, full_data)?;
-    packets(create(folder, "disc.capture")?, 50_000, full_discovery)
+    packets(create(folder, "disc.capture")?, 50_000, full_discovery)?;
+    for (sources, count) in FOLLOWED {
+        let out = create(folder, &format!("follow-{sources}.capture"))?;
+        packets(out, count, |i, _| small_data(i, sources))?;
+    }
+    Ok(())
 }
 
 /// All datagrams to choose from.
@@ -168,12 +188,23 @@ fn sample(folder: &Path) -> io::Result<()> {
     entries.flush()
 }
 
+fn follow_sample(folder: &Path) -> io::Result<()> {
+    let capture = capture::of(&script::sample());
+    create(folder, "follow.capture")?.write_all(&capture)?;
+    let mut lines = create(folder, "follow.lines")?;
+    follow::write_text(&mut lines, &capture, |_, _, _| {})?;
+    lines.flush()
+}
+
 fn main() -> io::Result<()> {
     oracle::keep_panics_of_crate();
     let words: Vec<String> = std::env::args().skip(1).collect();
     match &words[..] {
         [what, folder] if what == "speed" => speed(Path::new(folder)),
-        [what, folder] if what == "sample" => sample(Path::new(folder)),
+        [what, folder] if what == "sample" => {
+            sample(Path::new(folder))?;
+            follow_sample(Path::new(folder))
+        }
         _ => Err(io::Error::other("make-captures speed|sample FOLDER")),
     }
 }

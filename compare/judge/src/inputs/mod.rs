@@ -1,4 +1,5 @@
-//! The inputs: families that go through all cases near a boundary, and random ones from a seed.
+//! The inputs: families that go through all cases near a boundary, and random ones from a seed. Those of
+//! the follower are whole captures.
 
 mod bytes;
 mod cuts;
@@ -7,6 +8,8 @@ mod lists;
 mod names;
 mod random;
 mod samples;
+pub mod scenes;
+pub mod script;
 mod writes;
 
 pub use random::Draw;

@@ -1,0 +1,5 @@
+pub mod Fits
+pub mod Standing
+pub mod Calls
+pub mod Follow
+pub mod Examples

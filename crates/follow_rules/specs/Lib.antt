@@ -1,0 +1,4 @@
+pub mod Totals
+pub mod Table
+pub mod Rules
+pub mod Walk

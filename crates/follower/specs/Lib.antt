@@ -1,0 +1,3 @@
+pub mod Follow
+pub mod Captures
+pub mod Examples
