@@ -31,6 +31,8 @@ prepare_rust() { # SOURCES
     export SACN_SOURCES
     # The definition that says which kind of the crate's errors each of our numbers stands for.
     export REFUSAL_KINDS=$root/crates/demands/specs/Kinds.antt
+    # The paper whose datagrams are asked, too.
+    export DIFFERENCES=$root/docs/DIFFERENCES.md
     install_packages librust-byteorder-dev librust-uuid-dev librust-thiserror-dev librust-socket2-dev
     # Debian lays the sources of its crates where cargo can take them in place of crates.io.
     local registry

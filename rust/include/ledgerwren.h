@@ -31,7 +31,7 @@ extern "C" {
 
 /* Why something is refused; 0 where nothing is. A refusal's value is 0 unless it says here what it is;
  * good bytes are those at the name's front that make whole characters of UTF-8. */
-#define LEDGERWREN_REFUSAL_INSUFFICIENT_DATA 1
+#define LEDGERWREN_REFUSAL_PART_TOO_SHORT 1
 #define LEDGERWREN_REFUSAL_INVALID_DATA 2
 #define LEDGERWREN_REFUSAL_INVALID_FLAGS 3 /* value: the flags */
 #define LEDGERWREN_REFUSAL_INVALID_VECTOR 4 /* value: the vector */
@@ -44,6 +44,9 @@ extern "C" {
 #define LEDGERWREN_REFUSAL_INVALID_PAGE 11
 #define LEDGERWREN_REFUSAL_INVALID_UNIVERSE_ORDER 12 /* value: the first out of order */
 #define LEDGERWREN_REFUSAL_MISSING_FIELD 13
+#define LEDGERWREN_REFUSAL_LENGTH_BEYOND_PART 14 /* value: the length */
+#define LEDGERWREN_REFUSAL_COUNT_DIFFERS_FROM_LENGTH 15 /* value: the count */
+#define LEDGERWREN_REFUSAL_LENGTH_DIFFERS_FROM_PART 16 /* value: the length */
 #define LEDGERWREN_REFUSAL_BUFFER_TOO_SMALL 20
 #define LEDGERWREN_REFUSAL_NAME_TOO_LONG 21
 #define LEDGERWREN_REFUSAL_NAME_HAS_ZERO 22

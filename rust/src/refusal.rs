@@ -10,7 +10,7 @@ use std::fmt::{self, Display, Formatter};
 /// use ledgerwren::{parse, Check, Layer};
 ///
 /// let refusal = parse(&[]).unwrap_err();
-/// assert_eq!(refusal.check(), Check::InsufficientData);
+/// assert_eq!(refusal.check(), Check::PartTooShort);
 /// assert_eq!(refusal.layer(), Some(Layer::Preamble));
 /// assert_eq!((refusal.number(), refusal.place(), refusal.value()), (1, 1, 0));
 /// ```
@@ -112,8 +112,8 @@ impl Error for Refusal {}
 pub enum Check {
     /// A number that this version does not know: the static library is of another one.
     Unknown = 0,
-    /// There are too few bytes, or a length disagrees with them.
-    InsufficientData = 1,
+    /// There are too few bytes for the preamble, or for a layer's flags and vector.
+    PartTooShort = 1,
     /// A field that has to have a certain value has another, or there are more than 513 values.
     InvalidData = 2,
     /// The flags are not 0x70. Its value: the flags.
@@ -138,6 +138,12 @@ pub enum Check {
     InvalidUniverseOrder = 12,
     /// The layer is too short for its fields.
     MissingField = 13,
+    /// The layer's length is beyond the bytes that there are for it. Its value: the length.
+    LengthBeyondPart = 14,
+    /// The count of values is not the one that the DMP layer's length says. Its value: the count.
+    CountDiffersFromLength = 15,
+    /// The discovery layer's length is not the number of bytes that there are for it. Its value: the length.
+    LengthDiffersFromPart = 16,
     /// At writing: the buffer is shorter than the packet.
     BufferTooSmall = 20,
     /// At writing: the name has more than 63 bytes.
@@ -187,8 +193,8 @@ const fn tells(check: Check, value: Value, words: &'static str) -> Row {
 
 /// All checks, a line each. The test `header` holds to the definitions which of them have a value.
 #[rustfmt::skip]
-static CHECKS: [Row; 22] = [
-    tells(Check::InsufficientData, Value::Nothing, "the bytes are too few, or a length disagrees with them"),
+static CHECKS: [Row; 25] = [
+    tells(Check::PartTooShort, Value::Nothing, "there are too few bytes for the preamble, or for flags and vector"),
     tells(Check::InvalidData, Value::Nothing, "a field has a value that is not allowed"),
     tells(Check::InvalidFlags, Value::Number, "the flags are not 0x70"),
     tells(Check::InvalidVector, Value::Number, "the vector is none of the layer's"),
@@ -201,6 +207,9 @@ static CHECKS: [Row; 22] = [
     tells(Check::InvalidPage, Value::Nothing, "the page is above the last page"),
     tells(Check::InvalidUniverseOrder, Value::Number, "the universes are not strictly ascending"),
     tells(Check::MissingField, Value::Nothing, "the layer is too short for its fields"),
+    tells(Check::LengthBeyondPart, Value::Number, "the length is beyond the bytes that there are"),
+    tells(Check::CountDiffersFromLength, Value::Number, "the count is not the one that the length says"),
+    tells(Check::LengthDiffersFromPart, Value::Number, "the length is not the number of bytes that there are"),
     tells(Check::BufferTooSmall, Value::Nothing, "the buffer is shorter than the packet"),
     tells(Check::NameTooLong, Value::Nothing, "the name has more than 63 bytes"),
     tells(Check::NameHasZero, Value::Nothing, "the name has a zero in it"),
@@ -330,6 +339,30 @@ mod tests {
     }
 
     #[test]
+    fn a_cut_datagram_and_a_false_count_have_their_own_words() {
+        for (refusal, words) in [
+            (
+                refusal(1, 2, 0),
+                "there are too few bytes for the preamble, or for flags and vector (1) in the root layer",
+            ),
+            (
+                refusal(14, 2, 110),
+                "the length is beyond the bytes that there are (14) in the root layer: 110",
+            ),
+            (
+                refusal(15, 4, 0),
+                "the count is not the one that the length says (15) in the DMP layer: 0",
+            ),
+            (
+                refusal(16, 5, 9),
+                "the length is not the number of bytes that there are (16) in the discovery layer: 9",
+            ),
+        ] {
+            assert_eq!(refusal.to_string(), words);
+        }
+    }
+
+    #[test]
     fn what_is_not_there_is_not_told() {
         assert_eq!(
             refusal(6, 3, 0).to_string(),
@@ -358,10 +391,10 @@ mod tests {
         for row in &CHECKS {
             assert_eq!(Check::of(row.check.number()), row.check);
         }
-        assert_eq!(Check::of(14), Check::Unknown);
+        assert_eq!(Check::of(99), Check::Unknown);
         assert_eq!(
-            refusal(14, 4, 15).to_string(),
-            "a check that is not known here (14) in the DMP layer: 15"
+            refusal(99, 4, 15).to_string(),
+            "a check that is not known here (99) in the DMP layer: 15"
         );
     }
 

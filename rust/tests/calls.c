@@ -177,7 +177,7 @@ static void refusals(void)
 {
     LedgerwrenFound empty = ledgerwren1_parse(S, 0);
     CHECK(empty.kind == LEDGERWREN_KIND_REFUSED && filled(empty.cid, sizeof empty.cid, 0));
-    CHECK(is(empty.refusal, LEDGERWREN_REFUSAL_INSUFFICIENT_DATA, LEDGERWREN_PLACE_PREAMBLE, 0));
+    CHECK(is(empty.refusal, LEDGERWREN_REFUSAL_PART_TOO_SHORT, LEDGERWREN_PLACE_PREAMBLE, 0));
 
     /* A value of all 32 bits. */
     uint8_t strange[sizeof S];
@@ -194,6 +194,29 @@ static void refusals(void)
                                                     sizeof long_name, VALUES, sizeof VALUES);
     CHECK(is(named.refusal, LEDGERWREN_REFUSAL_NAME_TOO_LONG, LEDGERWREN_PLACE_NOWHERE, 0));
     CHECK(named.count == 0 && filled(buf, sizeof buf, FILL));
+}
+
+/* Cut, miscounted, and with a layer's length that is not its part's. */
+static void false_lengths(void)
+{
+    CHECK(is(ledgerwren1_parse(S, sizeof S - 1).refusal, LEDGERWREN_REFUSAL_LENGTH_BEYOND_PART,
+             LEDGERWREN_PLACE_ROOT, 33));
+
+    uint8_t buf[140];
+    LedgerwrenOutcome written =
+        ledgerwren1_pack_data(buf, sizeof buf, data_header(0), NAME, sizeof NAME, VALUES, sizeof VALUES);
+    buf[124] += 1;
+    CHECK(is(ledgerwren1_parse(buf, written.count).refusal, LEDGERWREN_REFUSAL_COUNT_DIFFERS_FROM_LENGTH,
+             LEDGERWREN_PLACE_DMP, sizeof VALUES + 1));
+    CHECK(is(ledgerwren1_parse_2009(buf, written.count).refusal,
+             LEDGERWREN_REFUSAL_COUNT_DIFFERS_FROM_LENGTH, LEDGERWREN_PLACE_DMP, sizeof VALUES + 1));
+
+    LedgerwrenDiscoveryHeader header = {.fields = {.page = 3, .last_page = 5}};
+    written = ledgerwren1_pack_discovery(buf, sizeof buf, header, NAME, sizeof NAME, UNIVERSES,
+                                         COUNT(UNIVERSES));
+    buf[113] -= 1;
+    CHECK(is(ledgerwren1_parse(buf, written.count).refusal, LEDGERWREN_REFUSAL_LENGTH_DIFFERS_FROM_PART,
+             LEDGERWREN_PLACE_DISCOVERY, 8 + 2 * COUNT(UNIVERSES) - 1));
 }
 
 /* A name that is no UTF-8, which only C can offer, and how many of its bytes are good. */
@@ -259,6 +282,7 @@ int main(void)
     synchronization();
     discovery();
     refusals();
+    false_lengths();
     malformed_names();
     universes();
     return failures != 0;

@@ -143,7 +143,7 @@ fn every_field_of_discovery_comes_through() {
 fn the_examples_are_refused_as_document_01_says() {
     assert_eq!(refused(&[]), (1, 1, 0));
     assert_eq!(refused(&changed(39, &[10])), (5, 3, 10));
-    assert_eq!(refused(&changed(39, &[12])), (1, 3, 0));
+    assert_eq!(refused(&changed(39, &[12])), (14, 3, 12));
     assert_eq!(refused(&changed(39, &[12, 0, 0, 0, 7])), (4, 3, 7));
     assert_eq!(refused(&changed(45, &[0, 0])), (9, 3, 0));
     assert_eq!(refused(&changed(16, &[0x60])), (3, 2, 96));
@@ -158,15 +158,49 @@ fn the_examples_are_refused_as_document_01_says() {
 #[test]
 fn a_cut_datagram_is_refused_and_a_longer_one_read() {
     for whole in [S.to_vec(), datagram(&data("Desk é")), discovery()] {
+        let root_length = whole.len() as u32 - 16;
         for length in 0..whole.len() {
-            assert!(
-                parse(&whole[..length]).is_err(),
-                "{length} of {}",
-                whole.len()
-            );
+            let expected = match length {
+                0..=15 => (1, 1, 0),
+                16..=21 => (1, 2, 0),
+                _ => (14, 2, root_length),
+            };
+            assert_eq!(refused(&whole[..length]), expected, "{length} bytes");
         }
         let longer = [&whole[..], &[0xff; 9]].concat();
         assert_eq!(parse(&longer), parse(&whole));
+    }
+}
+
+/// A length that is beyond its part, a count that is not the length's, a discovery length that is not its
+/// part's: each with its number, its layer and what it says. The second bytes of their fields are set.
+#[test]
+fn a_false_length_and_a_false_count_are_told_apart() {
+    let data = datagram(&data("Desk é"));
+    let (root, framing, dmp) = (data[17], data[39], data[116]);
+    let discovery = discovery();
+    let layer = discovery[113];
+    let cases = [
+        (&data, 17, root + 1, (14, 2)),
+        (&data, 39, framing + 1, (14, 3)),
+        (&data, 116, dmp + 1, (14, 4)),
+        (&data, 124, 3, (15, 4)),
+        (&data, 124, 5, (15, 4)),
+        // Beyond root's part, and beyond its own.
+        (&discovery, 39, discovery[17] + 1, (14, 3)),
+        (&discovery, 39, discovery[39] + 1, (14, 3)),
+        (&discovery, 113, layer + 1, (16, 5)),
+        (&discovery, 113, layer - 1, (16, 5)),
+    ];
+    for (whole, at, says, (number, place)) in cases {
+        let mut datagram = whole.clone();
+        datagram[at] = says;
+        let expected = (number, place, u32::from(says));
+        assert_eq!(refused(&datagram), expected, "{says} at {at}");
+        let old = parse_2009(&datagram).expect_err("a refusal");
+        let told = (old.number(), old.place(), old.value());
+        let in_2009 = if *whole == data { expected } else { (4, 2, 8) };
+        assert_eq!(told, in_2009, "{says} at {at}, by the edition of 2009");
     }
 }
 

@@ -61,6 +61,13 @@ pub fn parse(datagram: &[u8]) -> Result<AcnRootLayerProtocol<'_>, Refusal> {
     }
 }
 
+/// The words with which the crate's error names its check; none where there is no error that does.
+pub fn words(datagram: &[u8]) -> Option<&'static str> {
+    let answer = panic::catch_unwind(|| AcnRootLayerProtocol::parse(datagram).map(|_| ()));
+    let text = format!("{:?}", answer.ok()?.err()?);
+    refusal::named_in(&text).map(|check| check.words)
+}
+
 pub fn read(datagram: &[u8]) -> Answer {
     match parse(datagram) {
         Ok(packet) => Answer::Read(record_of(packet)),

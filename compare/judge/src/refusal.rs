@@ -19,6 +19,9 @@ const UNEXPECTED: (u8, u32) = (0, 0);
 /// A panic while reading; its place is the layer whose code panicked.
 pub const PANIC: u8 = 13;
 
+/// A length beyond its part. The crate's text does not say how long, so the datagram is asked.
+const LENGTH_BEYOND: u8 = 14;
+
 /// The number, where the definition of crates/demands gives it the error's kind.
 fn held_to_kind(number: u8, error: &impl Debug) -> u8 {
     if kinds::of(number) == kinds::name(error) {
@@ -38,8 +41,8 @@ fn by_kind(error: &ParsePacketError, writing: bool) -> (u8, u32) {
     match error {
         // The crate's short-buffer error at writing is of a kind that stands for bad data at reading.
         ParseInvalidData(_) if writing => (20, 0),
-        ParseInsufficientData(_) => (1, 0),
-        ParseInvalidData(_) => (2, 0),
+        ParseInsufficientData(text) => insufficient(text),
+        ParseInvalidData(text) => named_in(text).map_or(UNEXPECTED, |check| (check.number, 0)),
         ParsePduInvalidFlags(flags) => (3, u32::from(*flags)),
         PduInvalidVector(vector) => (4, *vector),
         PduInvalidLength(length) => (5, *length as u32),
@@ -48,7 +51,7 @@ fn by_kind(error: &ParsePacketError, writing: bool) -> (u8, u32) {
         ParseInvalidSyncAddr(address) => (9, u32::from(*address)),
         ParseInvalidUniverse(universe) => (10, u32::from(*universe)),
         ParseInvalidPage(_) => (11, 0),
-        ParseInvalidUniverseOrder(text) => (12, universe_in(text)),
+        ParseInvalidUniverseOrder(text) => (12, number_behind(text, "Universe ")),
         PackInvalidData(text) if text == "Universes are not unique" => (25, 0),
         PackInvalidData(text) if text == "Universes are not sorted" => (26, 0),
         PackInvalidData(_) => (24, 0),
@@ -56,10 +59,22 @@ fn by_kind(error: &ParsePacketError, writing: bool) -> (u8, u32) {
     }
 }
 
-/// The universe in "Universe 5 is out of order, ..."; the error carries it nowhere else.
-fn universe_in(text: &str) -> u32 {
-    let word = text.split(' ').nth(1);
-    word.and_then(|w| w.parse().ok()).unwrap_or(u32::MAX)
+/// One kind of the crate's stands for 1, 14, 15 and 16: its text tells which, and of 15 and 16 the value.
+fn insufficient(text: &str) -> (u8, u32) {
+    match named_in(text).map(|check| check.number) {
+        Some(15) => (15, number_behind(text, "count field indicates ")),
+        Some(16) => (16, number_behind(text, "length field (")),
+        Some(number) => (number, 0),
+        None if text.contains("pdu_info") => (1, 0),
+        None => UNEXPECTED,
+    }
+}
+
+/// The number behind these words of an error's text; it stands nowhere else.
+fn number_behind(text: &str, words: &str) -> u32 {
+    let behind = text.split_once(words).map_or("", |(_, behind)| behind);
+    let digits = behind.split(|c: char| !c.is_ascii_digit()).next();
+    digits.and_then(|d| d.parse().ok()).unwrap_or(u32::MAX)
 }
 
 pub fn of_reading(error: &SacnError, datagram: &[u8]) -> Refusal {
@@ -68,7 +83,12 @@ pub fn of_reading(error: &SacnError, datagram: &[u8]) -> Refusal {
         SacnError::Str(utf8) => (held_to_kind(7, error), utf8.valid_up_to() as u32, 3),
         SacnError::SacnParsePackError(error) => {
             let (number, value) = number_and_value(error, false);
-            (number, value, place(number, error, datagram))
+            let place = place(number, error, datagram);
+            let value = match number {
+                LENGTH_BEYOND => length_at(place, datagram),
+                _ => value,
+            };
+            (number, value, place)
         }
         _ => (UNEXPECTED.0, UNEXPECTED.1, 0),
     };
@@ -110,35 +130,67 @@ pub fn of_panic(line: u32) -> Refusal {
     }
 }
 
-/// Texts that name their layer. "pdu_info" is missing: every layer starts with it.
-const PLACES: [(&str, u8); 17] = [
-    ("ACN root layer preamble", 1),
-    ("invalid Preamble Size", 1),
-    ("invalid Post-amble Size", 1),
-    ("invalid ACN packet identifier", 1),
-    ("on ACN root layer pdu length", 2),
-    ("on E131 framing layer pdu length", 3),
-    ("on data packet framing layer pdu length", 3),
-    ("on synchronisation packet framing layer pdu length", 3),
-    ("on universe discovery packet framing layer pdu length", 3),
-    ("on data packet dmp layer pdu length", 4),
-    ("dmp layer property value count", 4),
-    ("invalid Address and Data Type", 4),
-    ("invalid First Property Address", 4),
-    ("invalid Address Increment", 4),
-    ("only 512 DMX slots allowed", 4),
-    ("universe discovery layer pdu length", 5),
-    ("cannot be parsed into the given number of universes", 6),
+/// A check that the crate's error names in its text: with which words, its number here, and its place.
+pub struct Named {
+    pub words: &'static str,
+    pub number: u8,
+    pub place: u8,
+}
+
+const fn named(words: &'static str, number: u8, place: u8) -> Named {
+    Named {
+        words,
+        number,
+        place,
+    }
+}
+
+/// All of them. "pdu_info" is missing: every layer starts with it.
+pub static NAMED: [Named; 17] = [
+    named("ACN root layer preamble", 1, 1),
+    named("invalid Preamble Size", 2, 1),
+    named("invalid Post-amble Size", 2, 1),
+    named("invalid ACN packet identifier", 2, 1),
+    named("on ACN root layer pdu length", 14, 2),
+    named("on E131 framing layer pdu length", 14, 3),
+    named("on data packet framing layer pdu length", 14, 3),
+    named("on synchronisation packet framing layer pdu length", 14, 3),
+    named(
+        "on universe discovery packet framing layer pdu length",
+        14,
+        3,
+    ),
+    named("on data packet dmp layer pdu length", 14, 4),
+    named("dmp layer property value count", 15, 4),
+    named("invalid Address and Data Type", 2, 4),
+    named("invalid First Property Address", 2, 4),
+    named("invalid Address Increment", 2, 4),
+    named("only 512 DMX slots allowed", 2, 4),
+    named("universe discovery layer pdu length", 16, 5),
+    named("cannot be parsed into the given number of universes", 1, 6),
 ];
+
+pub fn named_in(text: &str) -> Option<&'static Named> {
+    NAMED.iter().find(|check| text.contains(check.words))
+}
+
+/// What the length field of a place's layer says.
+fn length_at(place: u8, datagram: &[u8]) -> u32 {
+    let layer = match place {
+        2 => ROOT,
+        3 => FRAMING,
+        _ => DMP,
+    };
+    get_length(datagram, layer) as u32
+}
 
 /// By the error's text where it names the layer, by its kind where one layer alone has it, else by
 /// the outermost layer that shows the fault: layers are read from the outside inwards.
 fn place(number: u8, error: &ParsePacketError, datagram: &[u8]) -> u8 {
     match error {
-        ParseInsufficientData(text) | ParseInvalidData(text) => PLACES
-            .iter()
-            .find(|(part, _)| text.contains(part))
-            .map_or_else(|| outermost(number, datagram), |(_, place)| *place),
+        ParseInsufficientData(text) | ParseInvalidData(text) => {
+            named_in(text).map_or_else(|| outermost(number, datagram), |check| check.place)
+        }
         ParsePduInvalidFlags(_) | PduInvalidVector(_) | PduInvalidLength(_) => {
             outermost(number, datagram)
         }

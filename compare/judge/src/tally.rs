@@ -1,6 +1,8 @@
-//! How often each record and each refusal was met, and with which numbers of good bytes.
+//! How often each record and each refusal was met, by which of the crate's tests lengths and counts were
+//! refused, and with which numbers of good bytes.
 
-use crate::oracle::Answer;
+use crate::oracle::{self, Answer};
+use crate::refusal::NAMED;
 use crate::request::Request;
 use std::collections::{BTreeMap, BTreeSet};
 
@@ -18,7 +20,7 @@ pub enum Met {
 use Met::*;
 
 /// All that can occur. What is met and not listed here is a fault, too.
-const EXPECTED: [Met; 42] = [
+const EXPECTED: [Met; 46] = [
     Read("data"),
     Read("sync"),
     Read("disc"),
@@ -28,6 +30,7 @@ const EXPECTED: [Met; 42] = [
     ReadRefused(3, 2),
     ReadRefused(4, 2),
     ReadRefused(13, 2),
+    ReadRefused(14, 2),
     ReadRefused(1, 3),
     ReadRefused(3, 3),
     ReadRefused(4, 3),
@@ -38,16 +41,19 @@ const EXPECTED: [Met; 42] = [
     ReadRefused(9, 3),
     ReadRefused(10, 3),
     ReadRefused(13, 3),
+    ReadRefused(14, 3),
     ReadRefused(1, 4),
     ReadRefused(2, 4),
     ReadRefused(3, 4),
     ReadRefused(4, 4),
     ReadRefused(13, 4),
-    ReadRefused(1, 5),
+    ReadRefused(14, 4),
+    ReadRefused(15, 4),
     ReadRefused(3, 5),
     ReadRefused(4, 5),
     ReadRefused(5, 5),
     ReadRefused(11, 5),
+    ReadRefused(16, 5),
     ReadRefused(12, 6),
     Packed("data"),
     Packed("sync"),
@@ -70,8 +76,8 @@ const UNREACHABLE: [(&str, &str); 6] = [
         "the count is made from the part: (length - 8) / 2 universes always fit",
     ),
     (
-        "1 at place 5, part below 6 bytes",
-        "a discovery framing length of 82 or more leaves 8 bytes; 1 at place 5 is a length that differs",
+        "1 at place 5",
+        "a discovery framing length of 82 or more leaves the layer 8 bytes, and 6 are asked for",
     ),
     (
         "5 at place 5, length below 8",
@@ -88,6 +94,9 @@ const UNREACHABLE: [(&str, &str); 6] = [
     ("31", "copying universes out is not the crate's; the probe has no request for it"),
 ];
 
+/// The numbers besides 1 that are the crate's one kind of error. Several of its tests share one, and a place.
+const LENGTHS: [u8; 3] = [14, 15, 16];
+
 /// The refusals whose value is how many bytes of a name are good.
 const MALFORMED: [Met; 2] = [ReadRefused(7, 3), PackRefused(23)];
 
@@ -97,6 +106,7 @@ const MOST_GOOD: u32 = 62;
 #[derive(Default)]
 pub struct Tally {
     met: BTreeMap<Met, u64>,
+    lengths: BTreeMap<&'static str, u64>,
     good_bytes: BTreeMap<Met, BTreeSet<u32>>,
 }
 
@@ -104,11 +114,32 @@ impl Tally {
     pub fn count(&mut self, request: &Request, answer: &Answer) {
         let met = met(request, answer);
         *self.met.entry(met).or_default() += 1;
+        if let (Request::Read(datagram), ReadRefused(number, _)) = (request, met) {
+            if LENGTHS.contains(&number) {
+                let words = oracle::words(datagram).expect("the words of a refused length");
+                *self.lengths.entry(words).or_default() += 1;
+            }
+        }
         if let Answer::ReadRefused(r) | Answer::PackRefused(r) = answer {
             if MALFORMED.contains(&met) {
                 self.good_bytes.entry(met).or_default().insert(r.value);
             }
         }
+    }
+
+    /// Prints how often each test of the crate told 14, 15 or 16; says whether each did.
+    fn print_lengths(&self) -> bool {
+        let mut each = true;
+        for check in NAMED.iter().filter(|check| LENGTHS.contains(&check.number)) {
+            let (number, place, words) = (check.number, check.place, check.words);
+            let count = *self.lengths.get(words).unwrap_or(&0);
+            println!("{number} place {place}, \"{words}\": {count}");
+            if count == 0 {
+                println!("never met: {number} place {place}, \"{words}\"");
+                each = false;
+            }
+        }
+        each
     }
 
     /// Prints which values of the refusals of a malformed name were met; says whether all that can occur
@@ -141,6 +172,7 @@ impl Tally {
         for met in EXPECTED {
             println!("{:<28}{:>10}", name(met), self.met.get(&met).unwrap_or(&0));
         }
+        let lengths = self.print_lengths();
         let good_bytes = self.print_good_bytes();
         println!("cannot occur:");
         for (what, why) in UNREACHABLE {
@@ -156,7 +188,7 @@ impl Tally {
         for what in &strange {
             println!("met, and it should not occur: {what}");
         }
-        missed.is_empty() && strange.is_empty() && good_bytes
+        missed.is_empty() && strange.is_empty() && lengths && good_bytes
     }
 }
 

@@ -82,7 +82,7 @@ good-bytes-read d r e =
     (other (headChecks Four framing p ++ kindChecks (length (rootPart d)) len vec) refl)
     (other (synchronizationChecks p len) refl)
     (other (discoveryFraming.startChecks p len) refl)
-    (other (headChecks Four discovery q ++ ownChecks q (lengthOf q) (vectorOf Four q)) refl)
+    (λ room. other (headChecks Four discovery q ++ ownChecks q (lengthOf q) (vectorOf Four q)) refl)
     (λ f. absurd (omega (arith, f)))
     (λ i f. absurd (omega (arith, f))))
     (sym (read d) ∙ e)

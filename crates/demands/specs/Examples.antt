@@ -91,7 +91,7 @@ examples =
     }))
     -- (c) S, framing length 10; (d) length 12; (e) length 12 and vector 7
     ∷ (read (set S 39 10) gives refused 5 framing 10)
-    ∷ (read (set S 39 12) gives refused 1 framing 0)
+    ∷ (read (set S 39 12) gives refused 14 framing 12)
     ∷ (read (set (set S 39 12) 43 7) gives refused 4 framing 7)
     -- (f) S, sync address 0; (g) byte 16 as 60; (h) root length 21
     ∷ (read (set (set S 45 0) 46 0) gives refused 9 framing 0)

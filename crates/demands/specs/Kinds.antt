@@ -36,9 +36,12 @@ kindOf n =
     (choose (n =? 11) ParseInvalidPage
     (choose (n =? 12) ParseInvalidUniverseOrder
     (choose (n =? 13) Panic
+    (choose (n =? 14) ParseInsufficientData
+    (choose (n =? 15) ParseInsufficientData
+    (choose (n =? 16) ParseInsufficientData
     (choose (n =? 20) ParseInvalidData
     (choose (n =? 24) PackInvalidData
     (choose (n =? 25) PackInvalidData
     (choose (n =? 26) PackInvalidData
     (choose (n =? 30) IllegalUniverse
-    Ours)))))))))))))))))
+    Ours))))))))))))))))))))

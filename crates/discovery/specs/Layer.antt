@@ -21,10 +21,10 @@ countIn len = (len - 8) / 2
 abbrev pub fieldsOf : List ℕ → DiscoveryFields
 fieldsOf p = record { page = byteAt p 6; «last_page» = byteAt p 7 }
 
--- 1 unless its length equals its part; 4; 5 unless 8..1032; 11; then the universe list
+-- 16 unless its length equals its part; 4; 5 unless 8..1032; 11; then the universe list
 abbrev pub ownChecks : List ℕ → ℕ → ℕ → List Check
 ownChecks p len vec =
-    check (len =? length p) (refusal 1 discovery 0)
+    check (len =? length p) (refusal 16 discovery len)
     ∷ check (vec =? 1) (refusal 4 discovery vec)
     ∷ check (8 ≤? len and len ≤? 1032) (refusal 5 discovery len)
     ∷ check (byteAt p 6 ≤? byteAt p 7) (refusal 11 discovery 0)

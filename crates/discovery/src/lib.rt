@@ -54,11 +54,7 @@ fn parse_universe_list(p: &[u8], count: usize) -> Checked
     ensures { λ r. ⌜ r ≡ checkedOf (listChecks (now (p .entry)) count) ⌝ }
 {
     if p.len() / E131_UNIVERSE_FIELD_LENGTH < count {
-        return Checked::Refused(Refusal::new(
-            refusal::INSUFFICIENT_DATA,
-            refusal::UNIVERSE_LIST,
-            0,
-        ));
+        return Checked::Refused(Refusal::new(refusal::PART_TOO_SHORT, refusal::UNIVERSE_LIST, 0));
     }
     if count == 0 {
         return Checked::Passed;
@@ -91,7 +87,7 @@ fn parse_body(p: &[u8], length: u16, vector: u32) -> Discovery
     ensures { λ r. ⌜ r ≡ bodyOf (now (p .entry)) length vector ⌝ }
 {
     if length as usize != p.len() {
-        return refuse(refusal::INSUFFICIENT_DATA, 0);
+        return refuse(refusal::LENGTH_DIFFERS_FROM_PART, length as u32);
     }
     if vector != VECTOR_UNIVERSE_DISCOVERY_UNIVERSE_LIST {
         return refuse(refusal::INVALID_VECTOR, vector);

@@ -3,7 +3,7 @@ use Prim.Native.Nat.{ℕ, _+_}
 use mathlib.Core.List.{List, [], _∷_, _++_}
 use lib.ListN.{length}
 use Rattle.wire.specs.Fields.{byteAt, u16At, be16, join}
-use Rattle.refusal.specs.Check.{Check, check, refusal, dmp, reaches, _≤?_, _=?_, reading}
+use Rattle.refusal.specs.Check.{Check, check, refusal, dmp, reaches, fits, _≤?_, _=?_, reading}
 use Rattle.pdu.specs.Head.{headChecks, lengthOf, vectorOf, flagsAndLength}
 use Rattle.pdu.specs.declared.VectorLength.the-variants.{One}
 use Rattle.dmp.specs.declared.Dmp.{Dmp}
@@ -12,10 +12,10 @@ use Rattle.dmp.specs.declared.Dmp.the-variants.{Values, Refused}
 abbrev pub countOf : List ℕ → ℕ
 countOf p = u16At p 8
 
--- 1 if its length exceeds its part; 4; 2 for address type, first address, increment in turn
+-- 14 if its length exceeds its part; 4; 2 for address type, first address, increment in turn
 abbrev pub startChecks : List ℕ → ℕ → ℕ → List Check
 startChecks p len vec =
-    check (len ≤? length p) (refusal 1 dmp 0)
+    fits len dmp (length p)
     ∷ check (vec =? 2) (refusal 4 dmp vec)
     ∷ reaches 4 dmp p
     ∷ check (byteAt p 3 =? 0xa1) (refusal 2 dmp 0)
@@ -25,11 +25,11 @@ startChecks p len vec =
     ∷ check (u16At p 6 =? 1) (refusal 2 dmp 0)
     ∷ []
 
--- 1 if count + 10 differs from length; 2 if count is above 513
+-- 15 if count + 10 differs from length; 2 if count is above 513
 abbrev pub countChecks : List ℕ → ℕ → List Check
 countChecks p len =
     reaches 10 dmp p
-    ∷ check (countOf p + 10 =? len) (refusal 1 dmp 0)
+    ∷ check (countOf p + 10 =? len) (refusal 15 dmp (countOf p))
     ∷ check (countOf p ≤? 513) (refusal 2 dmp 0)
     ∷ []
 

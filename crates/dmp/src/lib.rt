@@ -44,7 +44,7 @@ fn parse_count(p: &[u8], length: u16) -> Dmp
     }
     let count = wire::u16_at(p, PROPERTY_VALUE_COUNT_FIELD_INDEX) as usize;
     if count + PROPERTY_VALUES_FIELD_INDEX != length as usize {
-        return refuse(refusal::INSUFFICIENT_DATA, 0);
+        return refuse(refusal::COUNT_DIFFERS_FROM_LENGTH, count as u32);
     }
     if UNIVERSE_CHANNEL_CAPACITY < count {
         return refuse(refusal::INVALID_DATA, 0);
@@ -57,7 +57,7 @@ fn parse_body(p: &[u8], length: u16, vector: u32) -> Dmp
     ensures { λ r. ⌜ r ≡ bodyOf (now (p .entry)) length vector ⌝ }
 {
     if p.len() < length as usize {
-        return refuse(refusal::INSUFFICIENT_DATA, 0);
+        return refuse(refusal::LENGTH_BEYOND_PART, length as u32);
     }
     if vector != VECTOR_DMP_SET_PROPERTY as u32 {
         return refuse(refusal::INVALID_VECTOR, vector);

@@ -1,7 +1,7 @@
 -- The framing layer under root vector 8, in its part p; `whole` is the length of root's whole part.
 use Prim.Native.Nat.{ℕ}
 use mathlib.Core.List.{List, [], _∷_, _++_}
-use Rattle.refusal.specs.Check.{Check, check, refusal, framing, _≤?_, _=?_, _or_, choose, reading}
+use Rattle.refusal.specs.Check.{Check, check, refusal, framing, fits, _=?_, _or_, choose, reading}
 use Rattle.name.specs.Name.{zeroAt}
 use Rattle.pdu.specs.Head.{headChecks, lengthOf, vectorOf}
 use Rattle.pdu.specs.declared.VectorLength.the-variants.{Four}
@@ -12,10 +12,10 @@ use Rattle.extended.specs.UniverseDiscovery.{discoveryFramingChecks, dis
 use Rattle.extended.specs.declared.Extended.{Extended}
 use Rattle.extended.specs.declared.Extended.the-variants.{Synchronization, Discovery, Refused}
 
--- 1 if its length exceeds root's whole part; 4 if the vector is neither 1 nor 2
+-- 14 if its length exceeds root's whole part; 4 if the vector is neither 1 nor 2
 abbrev pub kindChecks : ℕ → ℕ → ℕ → List Check
 kindChecks whole len vec =
-    check (len ≤? whole) (refusal 1 framing 0)
+    fits len framing whole
     ∷ check (vec =? 1 or vec =? 2) (refusal 4 framing vec)
     ∷ []
 

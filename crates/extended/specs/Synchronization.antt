@@ -3,15 +3,15 @@ use Prim.Native.Nat.{ℕ}
 use mathlib.Core.List.{List, [], _∷_}
 use lib.ListN.{length}
 use Rattle.wire.specs.Fields.{byteAt, u16At}
-use Rattle.refusal.specs.Check.{Check, check, refusal, framing, _≤?_, _=?_, _and_, reading}
+use Rattle.refusal.specs.Check.{Check, check, refusal, framing, fits, _≤?_, _=?_, _and_, reading}
 use Rattle.extended.specs.declared.synchronization.Synchronization.{Synchronization}
 use Rattle.extended.specs.declared.synchronization.Synchronization.the-variants.{Layer, Refused}
 use Rattle.extended.specs.declared.synchronization.SynchronizationFields.{SynchronizationFields}
 
--- 1 if its length exceeds its own part; 5 unless length 11; 9 unless 1..63999
+-- 14 if its length exceeds its own part; 5 unless length 11; 9 unless 1..63999
 abbrev pub synchronizationChecks : List ℕ → ℕ → List Check
 synchronizationChecks p len =
-    check (len ≤? length p) (refusal 1 framing 0)
+    fits len framing (length p)
     ∷ check (len =? 11) (refusal 5 framing len)
     ∷ check (1 ≤? u16At p 7 and u16At p 7 ≤? 63999) (refusal 9 framing (u16At p 7))
     ∷ []

@@ -2,7 +2,7 @@
 use Prim.Native.Nat.{ℕ, _-_}
 use mathlib.Core.List.{List, [], _∷_, _++_}
 use lib.ListN.{length, take, drop}
-use Rattle.refusal.specs.Check.{Check, check, refusal, framing, _≤?_, reading}
+use Rattle.refusal.specs.Check.{Check, check, refusal, framing, fits, _≤?_, reading}
 use Rattle.name.specs.Name.{zeroAt, sourceNameChecks}
 use Rattle.pdu.specs.Head.{lengthOf}
 use Rattle.discovery.specs.Layer.{discoveryChecks, fieldsOf, countIn}
@@ -14,9 +14,9 @@ use Rattle.extended.specs.declared.«universe_discovery».DiscoveryFrami
 abbrev pub discoveryPart : List ℕ → ℕ → List ℕ
 discoveryPart p len = take (len - 74) (drop 74 p)
 
--- 1 if its length exceeds its own part; 5 if length below 82
+-- 14 if its length exceeds its own part; 5 if length below 82
 abbrev pub startChecks : List ℕ → ℕ → List Check
-startChecks p len = check (len ≤? length p) (refusal 1 framing 0) ∷ check (82 ≤? len) (refusal 5 framing len) ∷ []
+startChecks p len = fits len framing (length p) ∷ check (82 ≤? len) (refusal 5 framing len) ∷ []
 
 -- then the name, and then the discovery layer
 abbrev pub discoveryFramingChecks : List ℕ → ℕ → List Check

@@ -29,7 +29,11 @@ fn parse_body(p: &[u8], whole: usize, length: u16, vector: u32) -> Extended
     ensures { λ r. ⌜ r ≡ bodyOf whole (now (p .entry)) length vector ⌝ }
 {
     if whole < length as usize {
-        return Extended::Refused(Refusal::new(refusal::INSUFFICIENT_DATA, refusal::FRAMING, 0));
+        return Extended::Refused(Refusal::new(
+            refusal::LENGTH_BEYOND_PART,
+            refusal::FRAMING,
+            length as u32,
+        ));
     }
     if vector == VECTOR_E131_EXTENDED_SYNCHRONIZATION {
         return match crate::synchronization::parse(p, length) {

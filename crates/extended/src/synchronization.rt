@@ -37,7 +37,7 @@ pub fn parse(p: &[u8], length: u16) -> Synchronization
     ensures { λ r. ⌜ r ≡ synchronizationOf (now (p .entry)) length ⌝ }
 {
     if p.len() < length as usize {
-        return refuse(refusal::INSUFFICIENT_DATA, 0);
+        return refuse(refusal::LENGTH_BEYOND_PART, length as u32);
     }
     if length != E131_UNIVERSE_SYNC_PACKET_FRAMING_LAYER_LENGTH {
         return refuse(refusal::INVALID_LENGTH, length as u32);

@@ -40,9 +40,9 @@ pub fn parse(p: &[u8], length: u16) -> DiscoveryFraming
     let end = length as usize;
     if p.len() < end {
         return DiscoveryFraming::Refused(Refusal::new(
-            refusal::INSUFFICIENT_DATA,
+            refusal::LENGTH_BEYOND_PART,
             refusal::FRAMING,
-            0,
+            length as u32,
         ));
     }
     if length < E131_UNIVERSE_DISCOVERY_FRAMING_LAYER_MIN_LENGTH {

@@ -5,7 +5,7 @@ use mathlib.Core.List.{List, [], _∷_, _++_}
 use lib.ListN.{length, take, drop}
 use lib.Dec.{eqb}
 use Rattle.wire.specs.Fields.{byteAt, u16At}
-use Rattle.refusal.specs.Check.{Check, check, refusal, framing, reaches, _≤?_, _=?_, _and_, reading}
+use Rattle.refusal.specs.Check.{Check, check, refusal, framing, reaches, fits, _≤?_, _=?_, _and_, reading}
 use Rattle.name.specs.Name.{nameField, zeroAt, sourceNameChecks}
 use Rattle.pdu.specs.Head.{headChecks, lengthOf, vectorOf}
 use Rattle.pdu.specs.declared.VectorLength.the-variants.{Four}
@@ -20,10 +20,10 @@ use Rattle.framing.specs.declared.DataFields.{DataFields}
 abbrev pub dmpPart : List ℕ → ℕ → List ℕ
 dmpPart p len = take (len - 77) (drop 77 p)
 
--- 1 if its length exceeds its part; 4; the name's field has to be there
+-- 14 if its length exceeds its part; 4; the name's field has to be there
 abbrev pub startChecks : List ℕ → ℕ → ℕ → List Check
 startChecks p len vec =
-    check (len ≤? length p) (refusal 1 framing 0)
+    fits len framing (length p)
     ∷ check (vec =? 2) (refusal 4 framing vec)
     ∷ reaches 70 framing p
     ∷ []

@@ -145,7 +145,7 @@ fn parse_body(p: &[u8], edition: Edition, length: u16, vector: u32) -> Data
     ensures { λ r. ⌜ r ≡ bodyOf edition (now (p .entry)) length vector ⌝ }
 {
     if p.len() < length as usize {
-        return refuse(refusal::INSUFFICIENT_DATA, 0);
+        return refuse(refusal::LENGTH_BEYOND_PART, length as u32);
     }
     if vector != VECTOR_E131_DATA_PACKET {
         return refuse(refusal::INVALID_VECTOR, vector);

@@ -42,7 +42,7 @@ dmp-sized q b =
     let count = countChecks q (lengthOf q) in
     let first : Every SizedRefusal head = omega (arith, b 0) in
     let second : Every SizedRefusal start = omega (arith, b 2) in
-    every-++ SizedRefusal head (start ++ count) first (λ a. every-++ SizedRefusal start count second (λ c. omega arith))
+    every-++ SizedRefusal head (start ++ count) first (λ a. every-++ SizedRefusal start count second (λ c. omega (arith, u16-small q 8 b)))
 
 start-sized : (p : List ℕ) → Bytes p → Every SizedRefusal (headChecks Four framing p ++ dataLayer.startChecks p (lengthOf p) (vectorOf Four p))
 start-sized p b = omega (arith, b 0, u32-small p 2 b)
@@ -89,7 +89,7 @@ sized d b =
     let qb : Bytes q = part-bytes (len - 74) 74 p pb in
     let words = universes-words (countIn (lengthOf q)) (listPart q) (bytes-drop 8 q qb) in
     each-answer Sized d
-    (each-check SizedRefusal d (outer-sized d r rb) (start-sized p pb) (λ room. name-checks-sized p) (fields-sized p pb) (kind-sized (length r) p pb) (synchronization-sized p pb) (framed-sized p) (own-sized q qb) (omega arith) (λ i. omega (arith, words i)))
+    (each-check SizedRefusal d (outer-sized d r rb) (start-sized p pb) (λ room. name-checks-sized p) (fields-sized p pb) (kind-sized (length r) p pb) (synchronization-sized p pb) (framed-sized p) (λ room. own-sized q qb) (omega arith) (λ i. omega (arith, words i)))
     ((pb 70, u16-small p 71 pb, pb 73, u16-small p 75 pb), name-sized p, u16-small e 8 eb)
     (pb 6, u16-small p 7 pb)
     ((qb 6, qb 7), name-sized p, (omega arith))

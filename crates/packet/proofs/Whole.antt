@@ -1,17 +1,17 @@
 -- The reader's whole behaviour, flat: the list of all checks of a datagram, and what `parse` makes of it. Assumes nothing.
-use Prim.Native.Nat.{ℕ, _≤_}
+use Prim.Native.Nat.{ℕ, _-_, _≤_}
 use mathlib.Core.Path.{_≡_, refl, sym, _∙_}
 use mathlib.Core.List.{List, [], _∷_, _++_, append-nil}
 use mathlib.Core.Logic.{_⊎_, inl, inr}
 use native.Mathlib.Omega.{arith}
-use lib.ListN.{length, getD}
+use lib.ListN.{length, drop, getD, length-take, length-drop}
 use Rattle.refusal.specs.declared.Refusal.{Refusal}
 use Rattle.refusal.specs.Check.{Check, refusal, root, framing, dmp, discovery, universeList, _=?_, choose}
 use Rattle.refusal.proofs.Tests.{Holds, fact, bounded, chosen, passed-over, choice}
 use Rattle.refusal.proofs.Laws.{All, Stops, refusalAt, Every, decides, all-hold, first-fails, all-back, always, every-++, computed}
 use Rattle.name.specs.Name.{nameField, sourceNameChecks}
 use Rattle.name.proofs.Good.{every-named}
-use Rattle.pdu.specs.Head.{headChecks, lengthOf, vectorOf}
+use Rattle.pdu.specs.Head.{headChecks, flagsOf, lengthOf, vectorOf}
 use Rattle.pdu.specs.declared.VectorLength.the-variants.{One, Four}
 use Rattle.dmp.specs.Layer as dmpLayer
 use Rattle.discovery.specs.Layer as discoveryLayer
@@ -151,7 +151,7 @@ each-data P edition p start named fields =
     let rest = fieldChecks edition p (lengthOf p) in
     every-++ P (head ++ own) (name ++ rest) start (λ a. every-++ P name rest (named (omega (arith, all-back head own a))) (λ b. fields))
 
--- What is so of every check of each layer is so of every check of a datagram.
+-- What is so of every check of each layer is so of every check of a datagram. A discovery layer is looked at only where it has at least 8 bytes.
 pub each-check : (P : Refusal → Type 0) (d : List ℕ) →
     let r = rootPart d in
     let p = framingPart d in
@@ -164,7 +164,7 @@ pub each-check : (P : Refusal → Type 0) (d : List ℕ) →
     Every P (headChecks Four framing p ++ kindChecks (length r) len (vectorOf Four p)) →
     Every P (synchronizationChecks p len) →
     Every P (discoveryFraming.startChecks p len) →
-    Every P (headChecks Four discovery q ++ discoveryLayer.ownChecks q (lengthOf q) (vectorOf Four q)) →
+    (8 ≤ length q → Every P (headChecks Four discovery q ++ discoveryLayer.ownChecks q (lengthOf q) (vectorOf Four q))) →
     P (refusal 1 universeList 0) →
     ((i : ℕ) → P (refusal 12 universeList (getD (universes (countIn (lengthOf q)) (listPart q)) i 0))) →
     Every P (packetChecks d)
@@ -185,7 +185,9 @@ each-check P d outer start named fields kind sync framed own short order =
     (λ a.
     let disc : Every P (discoveryFramingChecks p len) =
     every-++ P begun (name ++ (layer ++ listed)) framed
-    (λ b. every-++ P name (layer ++ listed) (named (omega (arith, b))) (λ c. every-++ P layer listed own (λ e. list))) in
+    (λ b.
+    let room : 8 ≤ length q = omega (arith, b, length-take (len - 74) (drop 74 p), length-drop 74 p) in
+    every-++ P name (layer ++ listed) (named (omega (arith, b))) (λ c. every-++ P layer listed (own room) (λ e. list))) in
     let extended : Every P (extendedChecks n p) =
     every-++ P (headChecks Four framing p ++ kindChecks n len vec) body kind
     (λ b. choice (Every P) (vec =? 1) (synchronizationChecks p len) (discoveryFramingChecks p len) (λ h. sync) (λ f. disc)) in
@@ -238,6 +240,8 @@ tabled d =
     let vec = vectorOf Four p in
     let q = discoveryPart p len in
     let us = universes (countIn (lengthOf q)) (listPart q) in
+    let head = headChecks Four discovery q in
+    let own = discoveryLayer.ownChecks q (lengthOf q) (vectorOf Four q) in
     each-check Allowed d
     (computed allowed (preambleChecks d ++ rootChecks E2018 r) refl)
     (computed allowed (headChecks Four framing p ++ dataLayer.startChecks p len vec) refl)
@@ -246,7 +250,9 @@ tabled d =
     (computed allowed (headChecks Four framing p ++ kindChecks (length r) len vec) refl)
     (computed allowed (synchronizationChecks p len) refl)
     (computed allowed (discoveryFraming.startChecks p len) refl)
-    (computed allowed (headChecks Four discovery q ++ discoveryLayer.ownChecks q (lengthOf q) (vectorOf Four q)) refl)
+    (λ room.
+    every-++ Allowed head own (λ f. absurd (omega (arith, f, room)), λ h. (λ f. fact (allowed (refusal 3 discovery (flagsOf q))), λ h. tt))
+    (λ a. computed allowed own refl))
     (fact (allowed (refusal 1 universeList 0)))
     (λ i. fact (allowed (refusal 12 universeList (getD us i 0))))
 

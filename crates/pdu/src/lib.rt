@@ -47,7 +47,7 @@ pub fn pdu_info(p: &[u8], n: VectorLength, place: u8) -> PduInfo
     ensures { λ r. ⌜ r ≡ infoOf n place (now (p .entry)) ⌝ }
 {
     if p.len() < E131_PDU_LENGTH_FLAGS_LENGTH + size_of(n) {
-        return PduInfo::Refused(Refusal::new(refusal::INSUFFICIENT_DATA, place, 0));
+        return PduInfo::Refused(Refusal::new(refusal::PART_TOO_SHORT, place, 0));
     }
     let flags = wire::byte_at(p, 0) / 0x10 * 0x10;
     if flags != E131_PDU_FLAGS {

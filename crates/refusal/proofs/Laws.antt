@@ -92,6 +92,13 @@ module _ {A : Type 0} (refused : Refusal → A) where
 pub stop : {A : Type 0} (k : ℕ) (refused : Refusal → A) (cs : List Check) (next : A) {x : A} → Stops k cs → x ≡ refused (refusalAt k cs) → x ≡ reading refused cs next
 stop k refused cs next s e = e ∙ sym (first-fails refused k cs next s)
 
+-- the same where the value that is told was read by another call, which says what it is
+pub stop-value : {A : Type 0} (k : ℕ) (refused : Refusal → A) (cs : List Check) (next : A) {x : A} {v : ℕ} → Stops k cs →
+    let r = refusalAt k cs in x ≡ refused (refusal (r .number) (r .place) v) → v ≡ r .value → x ≡ reading refused cs next
+stop-value k refused cs next s e h =
+    let r = refusalAt k cs in
+    stop k refused cs next s (e ∙ ap (λ (w : ℕ). refused (refusal (r .number) (r .place) w)) h)
+
 pub pass : {A : Type 0} (refused : Refusal → A) (cs : List Check) (next : A) {x : A} → All cs → x ≡ next → x ≡ reading refused cs next
 pass refused cs next h e = e ∙ sym (all-hold refused cs next h)
 

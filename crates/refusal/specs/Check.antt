@@ -74,6 +74,10 @@ universeList = 6
 abbrev pub reaches : ℕ → ℕ → List ℕ → Check
 reaches n place p = check (n ≤? length p) (refusal 13 place 0)
 
+-- a layer's length, which has to lie within the bytes that there are for it: 14 where it is beyond, and the length is told
+abbrev pub fits : ℕ → ℕ → ℕ → Check
+fits len place room = check (len ≤? room) (refusal 14 place len)
+
 -- the answer of a list of checks: the refusal of the first that fails, or `next` where none does
 unfoldable pub reading : {A : Type 0} → (Refusal → A) → List Check → A → A
 reading refused [] next = next

@@ -3,7 +3,7 @@ ghost use mathlib.Core.Path.{_≡_};
 ghost use Rattle.refusal.specs.Check.{refusal};
 
 // The numbers, each by what is wrong.
-pub const INSUFFICIENT_DATA: u8 = 1;
+pub const PART_TOO_SHORT: u8 = 1;
 
 pub const INVALID_DATA: u8 = 2;
 
@@ -28,6 +28,12 @@ pub const INVALID_PAGE: u8 = 11;
 pub const INVALID_UNIVERSE_ORDER: u8 = 12;
 
 pub const MISSING_FIELD: u8 = 13;
+
+pub const LENGTH_BEYOND_PART: u8 = 14;
+
+pub const COUNT_DIFFERS_FROM_LENGTH: u8 = 15;
+
+pub const LENGTH_DIFFERS_FROM_PART: u8 = 16;
 
 pub const BUFFER_TOO_SMALL: u8 = 20;
 

@@ -3,7 +3,7 @@ use Prim.Native.Nat.{ℕ}
 use mathlib.Core.List.{List, [], _∷_, _++_}
 use lib.ListN.{length, drop}
 use Rattle.wire.specs.Fields.{u16At, u32At}
-use Rattle.refusal.specs.Check.{Check, check, refusal, preamble, root, _≤?_, _=?_, _and_, _or_, reading}
+use Rattle.refusal.specs.Check.{Check, check, refusal, preamble, root, fits, _≤?_, _=?_, _and_, _or_, reading}
 use Rattle.pdu.specs.Head.{headChecks, lengthOf, vectorOf}
 use Rattle.pdu.specs.declared.VectorLength.the-variants.{Four}
 use Rattle.pdu.specs.declared.Edition.{Edition}
@@ -29,9 +29,9 @@ abbrev pub vectorChecks : Edition → ℕ → List Check
 vectorChecks E2018 vec = check (vec =? 4 or vec =? 8) (refusal 4 root vec) ∷ []
 vectorChecks E2009 vec = check (vec =? 4) (refusal 4 root vec) ∷ []
 
--- 1 if its length exceeds its part; 4; 13 if its length is below 22
+-- 14 if its length exceeds its part; 4; 13 if its length is below 22
 abbrev pub lengthChecks : List ℕ → ℕ → List Check
-lengthChecks p len = check (len ≤? length p) (refusal 1 root 0) ∷ []
+lengthChecks p len = fits len root (length p) ∷ []
 
 abbrev pub cidChecks : ℕ → List Check
 cidChecks len = check (22 ≤? len) (refusal 13 root 0) ∷ []

@@ -37,7 +37,7 @@ fn check_preamble(datagram: &[u8]) -> Checked
     ensures { λ r. ⌜ r ≡ checkedOf (preambleChecks (now (datagram .entry))) ⌝ }
 {
     if datagram.len() < PREAMBLE_LENGTH {
-        return refuse_preamble(refusal::INSUFFICIENT_DATA);
+        return refuse_preamble(refusal::PART_TOO_SHORT);
     }
     if wire::u16_at(datagram, 0) != E131_PREAMBLE_SIZE {
         return refuse_preamble(refusal::INVALID_DATA);
@@ -82,7 +82,11 @@ fn parse_body(p: &[u8], edition: Edition, length: u16, vector: u32) -> Root
 {
     let end = length as usize;
     if p.len() < end {
-        return Root::Refused(Refusal::new(refusal::INSUFFICIENT_DATA, refusal::ROOT, 0));
+        return Root::Refused(Refusal::new(
+            refusal::LENGTH_BEYOND_PART,
+            refusal::ROOT,
+            length as u32,
+        ));
     }
     match check_vector(vector, edition) {
         Checked::Refused(r) => Root::Refused(r),

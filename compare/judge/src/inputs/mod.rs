@@ -6,6 +6,7 @@ mod cuts;
 mod lengths;
 mod lists;
 mod names;
+mod papers;
 mod random;
 mod samples;
 pub mod scenes;
@@ -43,6 +44,7 @@ pub fn datagrams(sink: &mut dyn FnMut(Vec<u8>)) {
 /// All requests that do not depend on a seed.
 pub fn systematic(sink: &mut Sink) {
     datagrams(&mut |datagram| sink(Request::Read(datagram)));
+    papers::differences(&mut |datagram| sink(Request::Read(datagram)));
     writes::rooms(sink);
     writes::names(sink);
     writes::refusals(sink);

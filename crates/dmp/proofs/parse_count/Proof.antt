@@ -1,7 +1,7 @@
 use mathlib.Core.Path.{ap}
 use native.Mathlib.Omega.{arith}
 use borrow.Author.Needs.{needs}
-use Rattle.refusal.proofs.Laws.{stop, pass}
+use Rattle.refusal.proofs.Laws.{stop, stop-value, pass}
 use Rattle.dmp.specs.Layer.{countedOf}
 use Rattle.dmp.specs.declared.Dmp.the-variants.{Values}
 use Rattle.dmp.proofs.parse_count.Statement.{statement}
@@ -23,12 +23,16 @@ cast-count c = search needs
 add-if2 : tie.Need-add-if2
 add-if2 c = search needs
 
+cast-refuse : tie.Need-cast-refuse
+cast-refuse c = search needs
+
 refuse-requires-2 : tie.Need-refuse-requires-2
 refuse-requires-2 c κs = search needs
 
 returns-2 : tie.Need-returns-2
 unfolding countedOf
-returns-2 c = stop 1 _ _ _ (omega arith) (c .refuse2 .ensures)
+returns-2 c = let counted = c .before .before in
+    stop-value 1 _ _ _ (omega arith) (c .refuse2 .ensures) (counted .u16-at .ensures)
 
 refuse-requires-3 : tie.Need-refuse-requires-3
 refuse-requires-3 c κs = search needs
@@ -51,6 +55,7 @@ parse-count-spec =
     u16-at-requires
     cast-count
     add-if2
+    cast-refuse
     refuse-requires-2
     returns-2
     refuse-requires-3

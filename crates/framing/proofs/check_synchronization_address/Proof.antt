@@ -1,10 +1,10 @@
-use mathlib.Core.Path.{refl, ap, _∙_}
+use mathlib.Core.Path.{refl, ap}
 use native.Mathlib.Omega.{arith}
 use borrow.Author.Needs.{needs}
 use denote.Ref.{now}
-use Rattle.refusal.specs.Check.{refusal, framing, checkedOf}
+use Rattle.refusal.specs.Check.{checkedOf}
 use Rattle.refusal.specs.declared.Checked.the-variants.{Refused}
-use Rattle.refusal.proofs.Laws.{by-answer, stop, pass}
+use Rattle.refusal.proofs.Laws.{by-answer, stop, stop-value, pass}
 use Rattle.pdu.specs.declared.Edition.{Edition}
 use Rattle.pdu.specs.declared.Edition.the-variants.{E2018, E2009}
 use Rattle.framing.specs.Data.{syncAddressChecks}
@@ -44,7 +44,7 @@ returns-2 c =
     let told = judged .before .before in
     let a = told .before .before .before .args in
     by-answer (λ (e : Edition). checkedOf (syncAddressChecks e (now (a .p)))) (a .edition) E2018 (told .enum-told2 .given .1)
-    (stop 1 _ _ _ (omega arith) (ap Refused (c .new2 .ensures ∙ ap (refusal 9 framing) (judged .u16-at .ensures))))
+    (stop-value 1 _ _ _ (omega arith) (ap Refused (c .new2 .ensures)) (judged .u16-at .ensures))
 
 returns-3 : tie.Need-returns-3
 unfolding checkedOf

@@ -1,14 +1,13 @@
 use Prim.Native.Nat.{ℕ}
 use mathlib.Core.List.{List}
-use mathlib.Core.Path.{_≡_, refl, sym, ap, _∙_}
+use mathlib.Core.Path.{_≡_, refl, sym, _∙_}
 use native.Mathlib.Omega.{arith}
 use borrow.Author.Needs.{needs}
-use Rattle.refusal.specs.Check.{refusal, framing, reading, checkedOf}
+use Rattle.refusal.specs.Check.{reading, checkedOf}
 use Rattle.refusal.specs.declared.Checked.the-variants as checked
-use Rattle.refusal.proofs.Laws.{stop, pass, afterCheck, check-first, by-answer}
+use Rattle.refusal.proofs.Laws.{stop, stop-value, pass, afterCheck, check-first, by-answer}
 use Rattle.framing.specs.Data.{priorityChecks, syncAddressChecks, restChecks, layerNamed, afterName, afterSyncAddress}
 use Rattle.pdu.specs.declared.Edition.{Edition}
-use Rattle.framing.specs.declared.Data.{Data}
 use Rattle.framing.specs.declared.Data.the-variants.{Refused}
 use Rattle.framing.proofs.parse_fields.Statement.{statement}
 use Rattle.framing.proofs.parse_fields.Tie as tie
@@ -18,10 +17,6 @@ by-address : (edition : Edition) (name : ℕ) (p : List ℕ) (len : ℕ) →
     ≡ reading Refused (priorityChecks p) (afterCheck Refused (afterSyncAddress name p len) (checkedOf (syncAddressChecks edition p)))
 unfolding afterName afterSyncAddress
 by-address edition name p len = check-first Refused (priorityChecks p) (syncAddressChecks edition p) (restChecks p len) (layerNamed name p len)
-
--- a priority out of its range
-abbrev refused : ℕ → Data
-refused priority = Refused (refusal 8 framing priority)
 
 refuse-requires : tie.Need-refuse-requires
 refuse-requires c κs = search needs
@@ -42,7 +37,7 @@ refuse-requires-2 c κs = search needs
 returns-2 : tie.Need-returns-2
 unfolding afterName
 returns-2 c = let judged = c .before .before in
-    stop 1 _ _ _ (omega arith) (c .refuse2 .ensures ∙ ap refused (judged .byte-at .ensures))
+    stop-value 1 _ _ _ (omega arith) (c .refuse2 .ensures) (judged .byte-at .ensures)
 
 check-synchronization-address-requires : tie.Need-check-synchronization-address-requires
 check-synchronization-address-requires c κs = search needs

@@ -1,10 +1,10 @@
 use Prim.Native.Nat.{ℕ}
 use mathlib.Core.List.{List}
-use mathlib.Core.Path.{_≡_, refl, sym, ap, _∙_}
+use mathlib.Core.Path.{_≡_, refl, sym, _∙_}
 use native.Mathlib.Omega.{arith}
 use borrow.Author.Needs.{needs}
-use Rattle.refusal.specs.Check.{refusal, framing, reading}
-use Rattle.refusal.proofs.Laws.{stop, pass, inner-last, by-answer}
+use Rattle.refusal.specs.Check.{reading}
+use Rattle.refusal.proofs.Laws.{stop, stop-value, pass, inner-last, by-answer}
 use Rattle.dmp.specs.Layer.{dmpOf, dmpChecks, countOf}
 use Rattle.dmp.specs.declared.Dmp.{Dmp}
 use Rattle.dmp.specs.declared.Dmp.the-variants as dmp
@@ -25,10 +25,6 @@ unfolding afterSyncAddress dmpOf
 by-dmp name p len =
     inner-last (after name) dmp.Refused Refused (universeChecks p len) (dmpChecks (dmpPart p len)) (dmp.Values (countOf (dmpPart p len)))
     (layerNamed name p len) (λ r. refl) refl
-
--- a universe out of its range
-abbrev refused : ℕ → Data
-refused universe = Refused (refusal 10 framing universe)
 
 refuse-requires : tie.Need-refuse-requires
 refuse-requires c κs = search needs
@@ -63,7 +59,7 @@ refuse-requires-4 c κs = search needs
 returns-4 : tie.Need-returns-4
 unfolding afterSyncAddress
 returns-4 c = let judged = c .before .before in
-    stop 3 _ _ _ (omega arith) (c .refuse4 .ensures ∙ ap refused (judged .u16-at .ensures))
+    stop-value 3 _ _ _ (omega arith) (c .refuse4 .ensures) (judged .u16-at .ensures)
 
 cast-refuse-2 : tie.Need-cast-refuse-2
 cast-refuse-2 c = search needs
@@ -74,7 +70,7 @@ refuse-requires-5 c κs = search needs
 returns-5 : tie.Need-returns-5
 unfolding afterSyncAddress
 returns-5 c = let judged = c .before .before .before in
-    stop 3 _ _ _ (omega arith) (c .refuse5 .ensures ∙ ap refused (judged .u16-at .ensures))
+    stop-value 3 _ _ _ (omega arith) (c .refuse5 .ensures) (judged .u16-at .ensures)
 
 refuse-requires-6 : tie.Need-refuse-requires-6
 refuse-requires-6 c κs = search needs

@@ -1,7 +1,9 @@
+use mathlib.Core.Path.{ap}
 use native.Mathlib.Omega.{arith}
 use borrow.Author.Needs.{needs}
 use Rattle.refusal.proofs.Laws.{stop, pass}
 use Rattle.pdu.specs.Head.{infoOf}
+use Rattle.pdu.specs.declared.PduInfo.the-variants.{Refused}
 use Rattle.pdu.proofs.Head.{size-small}
 use Rattle.pdu.proofs.pdu_info.Statement.{statement}
 use Rattle.pdu.proofs.pdu_info.Tie as tie
@@ -17,7 +19,7 @@ new-requires c κs = search needs
 
 returns : tie.Need-returns
 unfolding infoOf
-returns c = stop 0 _ _ _ (omega arith) (cc)
+returns c = stop 0 _ _ _ (omega arith) (ap Refused (c .new .ensures))
 
 byte-at-requires : tie.Need-byte-at-requires
 byte-at-requires c κs = search needs

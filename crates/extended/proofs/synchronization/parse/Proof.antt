@@ -1,19 +1,15 @@
 use Prim.Native.Nat.{ℕ}
-use mathlib.Core.Path.{ap, ap₂, _∙_}
+use mathlib.Core.Path.{ap₂}
 use native.Mathlib.Omega.{arith}
 use borrow.Author.Needs.{needs}
-use Rattle.refusal.specs.Check.{refusal, framing}
-use Rattle.refusal.proofs.Laws.{stop, pass}
+use Rattle.refusal.proofs.Laws.{stop, stop-value, pass}
 use Rattle.extended.specs.Synchronization.{synchronizationOf}
 use Rattle.extended.specs.declared.synchronization.Synchronization.{Synchronization}
-use Rattle.extended.specs.declared.synchronization.Synchronization.the-variants.{Layer, Refused}
+use Rattle.extended.specs.declared.synchronization.Synchronization.the-variants.{Layer}
 use Rattle.extended.proofs.synchronization.parse.Statement.{statement}
 use Rattle.extended.proofs.synchronization.parse.Tie as tie
 
--- an address out of its range, and a layer by its two fields
-abbrev refused : ℕ → Synchronization
-refused address = Refused (refusal 9 framing address)
-
+-- a layer by its two fields
 abbrev layer : ℕ → ℕ → Synchronization
 layer sequence address = Layer (record { «sequence_number» = sequence; «synchronization_address» = address })
 
@@ -43,7 +39,7 @@ refuse-requires-3 c κs = search needs
 returns-3 : tie.Need-returns-3
 unfolding synchronizationOf
 returns-3 c = let judged = c .before .before in
-    stop 2 _ _ _ (omega arith) (c .refuse3 .ensures ∙ ap refused (judged .u16-at .ensures))
+    stop-value 2 _ _ _ (omega arith) (c .refuse3 .ensures) (judged .u16-at .ensures)
 
 cast-refuse-2 : tie.Need-cast-refuse-2
 cast-refuse-2 c = search needs
@@ -54,7 +50,7 @@ refuse-requires-4 c κs = search needs
 returns-4 : tie.Need-returns-4
 unfolding synchronizationOf
 returns-4 c = let judged = c .before .before .before in
-    stop 2 _ _ _ (omega arith) (c .refuse4 .ensures ∙ ap refused (judged .u16-at .ensures))
+    stop-value 2 _ _ _ (omega arith) (c .refuse4 .ensures) (judged .u16-at .ensures)
 
 byte-at-requires : tie.Need-byte-at-requires
 byte-at-requires c κs = search needs
