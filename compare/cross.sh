@@ -74,11 +74,16 @@ cargo_x86() { # FOLDER COMMAND WORDS...
     (cd "$1" && cargo "${cargo_words[@]}" "$2" --target "$target" --target-dir "$built" "${@:3}")
 }
 
-# Runs a program that cargo_x86 built for release.
-run_x86() { # NAME WORDS...
-    local words=("$built/$target/release/$1" "${@:2}")
+# Runs a program for x86-64.
+start_x86() { # PROGRAM WORDS...
+    local words=("$@")
     [ -z "$emulated" ] || words=("${start[@]}" "${words[@]}")
     "${words[@]}"
+}
+
+# Runs a program that cargo_x86 built for release.
+run_x86() { # NAME WORDS...
+    start_x86 "$built/$target/release/$1" "${@:2}"
 }
 
 # Says on what machine something is timed, and by which compiler it was built.

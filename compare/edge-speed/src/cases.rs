@@ -3,12 +3,33 @@
 use crate::answers::Answers;
 use crate::calls;
 use crate::ours;
-use crate::timing::{best, copy_timer};
+use crate::timing::{best, copy_timer, Timer};
 use judge::record::{Data, Discovery, Record, Sync};
 use judge::request::Request;
 
 const CID: [u8; 16] = *b"\x11\x22\x33\x44\x55\x66\x77\x88\x99\xaa\xbb\xcc\xdd\xee\xff\x00";
 const NAME: &str = "Front of house, desk 1";
+/// Names with how they are told: as long as the first one or as long as can be, of ASCII, of that and
+/// characters of two bytes, and of characters of three, with a digit behind them where one is missing.
+const NAMES: [(&str, usize, &str); 5] = [
+    (
+        "parse name 63 plain",
+        63,
+        "Front of house, desk 1, left side, upstairs, behind the curtain",
+    ),
+    ("parse name 22 mixed", 22, "Bühne für Gäste, A1"),
+    (
+        "parse name 63 mixed",
+        63,
+        "Éclairage façade côté cour, régie générale, pupitres 1+2",
+    ),
+    ("parse name 22 threes", 22, "舞台照明卓正面1"),
+    (
+        "parse name 63 threes",
+        63,
+        "舞台照明卓正面上手舞台照明卓正面上手舞台照",
+    ),
+];
 
 pub struct Case {
     name: &'static str,
@@ -92,6 +113,15 @@ fn write(
     }
 }
 
+/// Reading data with one value under each name.
+fn names() -> Vec<Case> {
+    let case = |(told, bytes, name): &(&'static str, usize, &str)| {
+        assert_eq!(name.len(), *bytes, "{told}");
+        read(told, data(name, 1).datagram(), "data", None)
+    };
+    NAMES.iter().map(case).collect()
+}
+
 const TWICE: Option<f64> = Some(2.0);
 const THRICE: Option<f64> = Some(3.0);
 const NO_SLOWER: Option<f64> = Some(1.0);
@@ -160,6 +190,7 @@ fn writings() -> Vec<Case> {
 
 pub fn all() -> Vec<Case> {
     let mut cases = readings();
+    cases.extend(names());
     cases.extend(writings());
     cases
 }
@@ -168,18 +199,35 @@ impl Case {
     /// Compares the answers to this case, and holds ours to what the case is there for.
     pub fn check(&self, answers: &mut Answers) {
         answers.take(&self.request);
+        self.check_ours();
+    }
+
+    /// Holds our answer to what the case is there for.
+    pub fn check_ours(&self) {
         let line = ours::ask(&self.request).map(|answer| answer.line());
         let line = line.unwrap_or_default();
         assert!(line.starts_with(self.answer), "{}: {line}", self.name);
     }
 
-    /// Times the case, prints its row, and says whether no target was missed.
-    pub fn time(&self, rounds: u64) -> bool {
-        let (datagram, [ours, theirs]) = match &self.request {
+    /// The packet, and what to time: ours and the crate's.
+    fn timers(&self) -> (Vec<u8>, [Timer<'_>; 2]) {
+        match &self.request {
             Request::Read(datagram) => (datagram.clone(), calls::reading(datagram)),
             Request::Pack(record, room) => (record.datagram(), calls::writing(record, *room)),
             Request::Universe(_) => unreachable!("no case asks for an address"),
-        };
+        }
+    }
+
+    /// Times our call alone, and prints the nanoseconds before the case.
+    pub fn time_ours(&self, rounds: u64) {
+        let (_, [ours, _]) = self.timers();
+        let [ours] = best([ours], rounds);
+        println!("{ours:.1} {}", self.name);
+    }
+
+    /// Times the case, prints its row, and says whether no target was missed.
+    pub fn time(&self, rounds: u64) -> bool {
+        let (datagram, [ours, theirs]) = self.timers();
         let [ours, theirs, copy] = best([ours, theirs, copy_timer(&datagram)], rounds);
         let ratio = theirs / ours;
         let target = self

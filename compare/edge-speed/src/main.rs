@@ -2,6 +2,7 @@
 //!
 //! edge-speed COUNT ROUNDS SVG: compares on all systematic inputs and COUNT random draws, times each
 //! case as the best of ROUNDS, and draws how the time of reading grows in the file SVG.
+//! edge-speed ours ROUNDS: prints our time of each case, for whoever compares two libraries.
 
 mod answers;
 mod calls;
@@ -35,10 +36,21 @@ fn time(rounds: u64) {
     println!("\n{missed} targets missed.");
 }
 
+/// Each case has to be answered as it is meant, and is then timed.
+fn time_ours(rounds: u64) {
+    for case in cases::all() {
+        case.check_ours();
+        case.time_ours(rounds);
+    }
+}
+
+fn number(word: &str) -> io::Result<u64> {
+    word.parse()
+        .map_err(|_| io::Error::other(format!("'{word}' is no number")))
+}
+
 fn run(count: &str, rounds: &str, svg: &str) -> io::Result<bool> {
-    let (Ok(count), Ok(rounds)) = (count.parse(), rounds.parse()) else {
-        return Err(io::Error::other("COUNT and ROUNDS are numbers"));
-    };
+    let (count, rounds) = (number(count)?, number(rounds)?);
     oracle::keep_panics_of_crate();
     if !compare(count) {
         return Ok(false);
@@ -52,11 +64,18 @@ fn run(count: &str, rounds: &str, svg: &str) -> io::Result<bool> {
 
 fn main() -> io::Result<ExitCode> {
     let words: Vec<String> = env::args().skip(1).collect();
-    let [count, rounds, svg] = &words[..] else {
-        return Err(io::Error::other("edge-speed COUNT ROUNDS SVG"));
-    };
-    Ok(match run(count, rounds, svg)? {
-        true => ExitCode::SUCCESS,
-        false => ExitCode::FAILURE,
-    })
+    let words: Vec<&str> = words.iter().map(String::as_str).collect();
+    match words[..] {
+        ["ours", rounds] => time_ours(number(rounds)?),
+        [count, rounds, svg] => {
+            if !run(count, rounds, svg)? {
+                return Ok(ExitCode::FAILURE);
+            }
+        }
+        _ => {
+            let usage = "edge-speed COUNT ROUNDS SVG, or edge-speed ours ROUNDS";
+            return Err(io::Error::other(usage));
+        }
+    }
+    Ok(ExitCode::SUCCESS)
 }

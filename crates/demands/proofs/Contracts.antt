@@ -25,6 +25,10 @@ module _ {K : Type 0} {A R E : K → Type 0} where
   abbrev pub SettledWith : {B : K → Type 0} → ((k : K) → A k → R k → E k → Type 0) → ((k : K) → E k → B k) → Type 0
   SettledWith L left = (k : K) (a : A k) (r s : R k) (e f : E k) → L k a r e → L k a s f → (r ≡ s) × (left k e ≡ left k f)
 
+  -- two results are equal where only the arguments are alike
+  abbrev pub SettledAlike : ((k : K) → A k → R k → E k → Type 0) → ((k : K) → A k → A k → Type 0) → Type 0
+  SettledAlike L alike = (k : K) (a b : A k) (r s : R k) (e f : E k) → alike k a b → L k a r e → L k b s f → r ≡ s
+
   -- two results are alike, if that is which is not the call's to settle; it may speak of what is learnt of each
   abbrev pub SettledIf : (L : (k : K) → A k → R k → E k → Type 0) → ((k : K) (a : A k) (r s : R k) (e f : E k) → L k a r e → L k a s f → Type 0) →
       ((k : K) → R k → R k → E k → E k → Type 0) → Type 0
@@ -34,6 +38,11 @@ module _ {K : Type 0} {A R E : K → Type 0} where
     -- a contract that says the result by the arguments; what is seen; the result, and by it the buffer
     pub settled : {answer : (k : K) → A k → R k} → ((k : K) (a : A k) (r : R k) (e : E k) → L k a r e → r ≡ answer k a) → Settled L
     settled says k a r s e f p q = says k a r e p ∙ sym (says k a s f q)
+
+    pub settled-alike : {answer : (k : K) → A k → R k} {alike : (k : K) → A k → A k → Type 0} →
+        ((k : K) (a : A k) (r : R k) (e : E k) → L k a r e → r ≡ answer k a) → ((k : K) (a b : A k) → alike k a b → answer k a ≡ answer k b) →
+        SettledAlike L alike
+    settled-alike says same k a b r s e f h p q = says k a r e p ∙ same k a b h ∙ sym (says k b s f q)
 
     pub settled-as : {B : K → Type 0} {seen : (k : K) → R k → E k → B k} {answer : (k : K) → A k → B k} →
         ((k : K) (a : A k) (r : R k) (e : E k) → L k a r e → seen k r e ≡ answer k a) → SettledAs L seen

@@ -2,6 +2,9 @@
 -- two buffers at exit. Each line names the call, and its contract is what the kit made of the call's own `ensures`. `SettledText`, `SettledEdge` and
 -- `SettledSystem` have the other libraries' calls. Assumes nothing.
 use denote.Ref.{now}
+use lib.ListN.{take}
+use Rattle.name.specs.Name.{Alike}
+use Rattle.name.proofs.Decided.{alike}
 use Rattle.refusal.proofs as Refusal
 use Rattle.wire.proofs as Wire
 use Rattle.universe.proofs as Universe
@@ -16,7 +19,7 @@ use Rattle.packet.proofs as Packet
 use Rattle.parts.proofs as Parts
 use Rattle.pack.proofs as Pack
 use Rattle.edition2009.proofs as Edition2009
-use Rattle.demands.proofs.Contracts.{Settled, settled, SettledAs, settled-as, SettledWith, settled-with}
+use Rattle.demands.proofs.Contracts.{Settled, settled, SettledAlike, settled-alike, SettledAs, settled-as, SettledWith, settled-with}
 
 -- refusal
 pub new : Settled Refusal.Refusal.new.Reads.Learnt
@@ -60,6 +63,10 @@ whole-characters = settled (λ k a r e p. p)
 
 pub parse-source-name-str : Settled Name.parse_source_name_str.Reads.Learnt
 parse-source-name-str = settled (λ k a r e p. p)
+
+-- and so for two fields that are the same up to the zero: nothing behind the byte that decides is needed
+pub alike-source-name : SettledAlike Name.parse_source_name_str.Reads.Learnt (λ k a b. Alike (take 64 (now (a .0))) (take 64 (now (b .0))))
+alike-source-name = settled-alike (λ k a r e p. p) (λ k a b h. alike (take 64 (now (a .0))) (take 64 (now (b .0))) h)
 
 pub check-source-name : Settled Name.check_source_name.Reads.Learnt
 check-source-name = settled (λ k a r e p. p)

@@ -175,6 +175,44 @@ fn names() {
     written(b"FOH\xe2\x82\x28");
 }
 
+// A field that begins with these bytes, with a zero behind them and then bytes that no name has.
+fn field_of(front: &[u8]) {
+    let mut all = [0xff; 64];
+    wire::copy(&mut all, 0, front);
+    wire::copy(&mut all, front.len(), b"\0");
+    field(&all);
+}
+
+// Names are looked through eight bytes at a time: what ends, goes over and breaks off around the eighth byte.
+fn names_around_eight() {
+    field_of(b"seven 7");
+    field_of(b"eight  8");
+    field_of(b"seven 7\xc3\xa9");
+    field_of(b"seven 7\xc3");
+    field_of(b"seven 7\xe2\x82\xac and more");
+    field_of(b"five5\xf0\x9f\x92\xa1");
+    field_of(b"five5\xf0\x9f\x92");
+    field_of(b"\xc3\xa9 in front");
+    field_of(b"eight  8ninth\xff, text");
+    field_of(b"sixteen bytes  6\xed\xa0\x80");
+}
+
+// Slices that end before, at and behind the eighth byte, with a zero and without.
+fn names_that_are_short() {
+    field(b"");
+    field(b"ab\0");
+    field(b"abc");
+    field(b"abcdef\xff");
+    field(b"abcdefg\0");
+    written(b"n\xc3\xa9");
+    written(b"nn\xe2\x82\xac");
+    written(b"nnn\xf0\x9f\x92\xa1");
+    written(b"nnnn\xc3");
+    written(b"nnnnnn\xff");
+    written(b"nnnnn\0n");
+    written(b"eight  8\xc3\xa9 end");
+}
+
 fn main() {
     all_universes();
     addresses();
@@ -182,4 +220,6 @@ fn main() {
     three_bytes();
     four_bytes();
     names();
+    names_around_eight();
+    names_that_are_short();
 }

@@ -8,13 +8,11 @@ use lib.ListN.{length, take, drop, getD, replicate, drop-of-length-le, length-ap
 use lib.Seq.{sets, length-take-le, take-append-le, take-append-add, take-take}
 use Rattle.refusal.specs.Check.{_=?_, _≤?_}
 use Rattle.refusal.proofs.Tests.{chosen, passed-over, choice, decide}
-use Rattle.refusal.proofs.Laws.{found}
 use Rattle.wire.proofs.Laws.{drop-more, take-zeros, sets-take, sets-front}
 use Rattle.name.specs.Utf8.{leadOf, step, marked, reach}
-use Rattle.name.specs.Name.{nameField, zeroAt, textOf, sourceNameChecks, sourceNameOf, nameBytes}
+use Rattle.name.specs.Name.{nameField, zeroAt, textOf, sourceNameOf, nameBytes}
 use Rattle.name.specs.declared.utf8.Expect.{Expect}
 use Rattle.name.specs.declared.SourceName.{SourceName}
-use Rattle.name.specs.declared.SourceName.the-variants as source
 use Rattle.name.proofs.Choices.{Choices, row, rows, otherwise}
 
 -- the table of first bytes, with the rows e1..ec and ee..ef as 3 and 4
@@ -33,18 +31,6 @@ module _ (s : List ℕ) (i : ℕ) where
   unfolding reach
   reach-end e whole h = rw (drop-of-length-le s h)
 
-  pub zero-here : i < length s → getD s i 0 ≡ 0 → zeroAt (drop i s) ≡ 0
-  unfolding zeroAt
-  zero-here h e = rw (drop-more s i h) (sym (chosen _ _ _ e refl))
-
-  pub zero-later : i < length s → (getD s i 0 ≡ 0 → ⊥) → zeroAt (drop i s) ≡ suc (zeroAt (drop (i + 1) s))
-  unfolding zeroAt
-  zero-later h f = rw (drop-more s i h) (sym (passed-over _ _ _ f refl))
-
-  pub zero-end : length s ≤ i → zeroAt (drop i s) ≡ 0
-  unfolding zeroAt
-  zero-end h = rw (drop-of-length-le s h)
-
 -- The first zero of a list is in it, and one that is put behind a name without a zero is the first.
 pub zero-within : (s : List ℕ) → zeroAt s ≤ length s
 unfolding zeroAt
@@ -62,14 +48,6 @@ zero-after [] rest e = sym (chosen (0 =? 0) 0 (suc (zeroAt rest)) refl refl)
 zero-after (b ∷ name) rest e =
     decide (b =? 0) (λ h. absurd (omega (arith, chosen (b =? 0) 0 (suc (zeroAt name)) h refl)))
     (λ f. sym (passed-over _ _ _ f (ap suc (sym (zero-after name rest (omega (arith, passed-over (b =? 0) 0 (suc (zeroAt name)) f refl)))))))
-
--- A name that was found stands before a zero of its field.
-pub text-within : (field : List ℕ) (n : ℕ) → sourceNameOf field ≡ source.Text n → n < length field
-unfolding sourceNameOf
-text-within field n e =
-    let f = found source.Refused (sourceNameChecks field) (source.Text (zeroAt field)) (source.Text n) (λ r q. let z : _≡_ {A = ℕ} 0 1 = cc in omega arith) e in
-    let at : zeroAt field ≡ n = cc in
-    omega arith
 
 -- The field of a layer's part has no more than 64 bytes: x is what was found in it, and known to be y.
 pub name-found : (p : List ℕ) {x y : SourceName} → x ≡ sourceNameOf (take 64 (nameField p)) → x ≡ y → sourceNameOf (nameField p) ≡ y

@@ -1,6 +1,9 @@
 pub mod Choices
 pub mod Laws
-pub mod Runs
+pub mod WordLaws
+pub mod TopBits
+pub mod Pass
+pub mod Decided
 pub mod Longest
 pub mod Points
 pub mod Good

@@ -62,10 +62,6 @@ pub whole-within : (s : List ℕ) → wholeChars s ≤ length s
 unfolding wholeChars
 whole-within s = ⊎-elim (λ q. omega arith) (λ (q : Reached Lead 0 s (reach Lead 0 0 s)). omega arith) (reach-ends Lead 0 0 s)
 
--- the same of a number that is told to be it
-pub told-within : (s : List ℕ) {n : ℕ} → n ≡ wholeChars s → n ≤ length s
-told-within s e = omega (arith, e, whole-within s)
-
 after-whole : (s : List ℕ) → after Lead (take (wholeChars s) s) ≡ Lead
 unfolding wholeChars
 after-whole s =

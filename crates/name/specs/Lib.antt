@@ -1,4 +1,4 @@
 pub mod Utf8
 pub mod CodePoint
 pub mod Name
-pub mod Plain
+pub mod Words

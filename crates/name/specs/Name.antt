@@ -1,9 +1,11 @@
 -- Names in a field, and names that may be written.
-use Prim.Native.Nat.{ℕ, suc, _+_}
+use Prim.Native.Nat.{ℕ, suc, _+_, _<_}
+use mathlib.Core.Path.{_≡_}
 use mathlib.Core.List.{List, [], _∷_, _++_}
 use lib.ListN.{length, take, drop, replicate}
 use Rattle.refusal.specs.Check.{Check, check, refusal, framing, nowhere, _≤?_, _=?_, choose, reading}
 use Rattle.name.specs.Utf8.{wholeChars, wellFormed}
+use Rattle.name.specs.declared.walk.Walked.{Walked}
 use Rattle.name.specs.declared.SourceName.{SourceName}
 use Rattle.name.specs.declared.SourceName.the-variants as source
 
@@ -19,6 +21,15 @@ zeroAt (b ∷ bs) = choose (b =? 0) 0 (suc (zeroAt bs))
 -- a name ends before its first zero
 abbrev pub textOf : List ℕ → List ℕ
 textOf field = take (zeroAt field) field
+
+-- a field that has a zero, and one that is the same up to it
+pub record Alike (field other : List ℕ) : Type 0 where
+  pub ended : zeroAt field < length field
+  pub front : take (zeroAt field + 1) field ≡ take (zeroAt field + 1) other
+
+-- what one pass over a field tells: where the name ends, and how many of its leading bytes form whole characters
+abbrev pub walkedOf : List ℕ → Walked
+walkedOf field = record { len = zeroAt field; whole = wholeChars (textOf field) }
 
 -- 6: no zero; 7: not UTF-8, and how many leading bytes of the name form whole characters
 abbrev pub sourceNameChecks : List ℕ → List Check

@@ -1,6 +1,7 @@
 // Source names: where one ends in its field, and whether its bytes are well-formed UTF-8.
-mod plain;
 mod utf8;
+mod walk;
+mod words;
 
 use refusal::Checked;
 use refusal::Refusal;
@@ -10,26 +11,12 @@ ghost use Prim.Native.Nat.{_≤_};
 ghost use lib.ListN.{take, length as ListN·length};
 ghost use lib.Seq.{sets};
 ghost use Rattle.refusal.specs.Check.{refusal as Check·refusal, checkedOf};
-ghost use Rattle.name.specs.Name.{zeroAt, sourceNameOf, writtenNameChecks, nameBytes};
+ghost use Rattle.name.specs.Name.{sourceNameOf, writtenNameChecks, nameBytes};
 pub use utf8::whole_characters;
 
 pub enum SourceName {
     Text { len: usize },
     Refused(Refusal),
-}
-
-// How many bytes stand before the first zero, or all of them.
-fn zero_at(s: &[u8]) -> usize
-    ensures { λ r. ⌜ r ≡ zeroAt (now (s .entry)) ⌝ }
-{
-    let mut i = 0;
-    while i < s.len() {
-        if s[i] == 0 {
-            return i;
-        }
-        i += 1;
-    }
-    i
 }
 
 // Refuses a name that fits a field, and tells how many of its leading bytes are good.
@@ -40,26 +27,19 @@ fn malformed(number: u8, place: u8, good: usize) -> Refusal
     Refusal::new(number, place, good as u32)
 }
 
-// What follows the name's zero is not looked at. A plain name needs one pass.
+// What follows the name's zero is not looked at.
 fn name_in(field: &[u8]) -> SourceName
     requires { ⌜ ListN·length (now field) ≤ 64 ⌝ }
     ensures { λ r. ⌜ r ≡ sourceNameOf (now (field .entry)) ⌝ }
 {
-    let plain = plain::plain_run(field);
-    if plain < field.len() {
-        if field[plain] == 0 {
-            return SourceName::Text { len: plain };
-        }
-    }
-    let len = zero_at(field);
-    if field.len() <= len {
+    let text = walk::walk(field);
+    if field.len() <= text.len {
         return SourceName::Refused(Refusal::new(refusal::NAME_NOT_TERMINATED, refusal::FRAMING, 0));
     }
-    let whole = whole_characters(&field[0..len]);
-    if whole != len {
-        return SourceName::Refused(malformed(refusal::NAME_NOT_UTF8, refusal::FRAMING, whole));
+    if text.whole != text.len {
+        return SourceName::Refused(malformed(refusal::NAME_NOT_UTF8, refusal::FRAMING, text.whole));
     }
-    SourceName::Text { len }
+    SourceName::Text { len: text.len }
 }
 
 // The name in a field, which has 64 bytes: what is lent behind them is not looked at.
@@ -76,15 +56,16 @@ pub fn check_source_name(name: &[u8]) -> Checked
     if E131_SOURCE_NAME_FIELD_LENGTH <= name.len() {
         return Checked::Refused(Refusal::new(refusal::NAME_TOO_LONG, refusal::NOWHERE, 0));
     }
-    if name.len() <= plain::plain_run(name) {
-        return Checked::Passed;
-    }
-    if zero_at(name) < name.len() {
+    let text = walk::walk(name);
+    if text.len < name.len() {
         return Checked::Refused(Refusal::new(refusal::NAME_HAS_ZERO, refusal::NOWHERE, 0));
     }
-    let whole = whole_characters(name);
-    if whole != name.len() {
-        return Checked::Refused(malformed(refusal::WRITTEN_NAME_NOT_UTF8, refusal::NOWHERE, whole));
+    if text.whole != text.len {
+        return Checked::Refused(malformed(
+            refusal::WRITTEN_NAME_NOT_UTF8,
+            refusal::NOWHERE,
+            text.whole,
+        ));
     }
     Checked::Passed
 }

@@ -45,7 +45,7 @@ fn after_trail(more: u8) -> Expect
     }
 }
 
-fn next(expect: Expect, b: u8) -> Expect
+pub(crate) fn next(expect: Expect, b: u8) -> Expect
     ensures { λ r. ⌜ r ≡ step expect b ⌝ }
 {
     match expect {
@@ -64,7 +64,7 @@ fn next(expect: Expect, b: u8) -> Expect
 }
 
 // Characters are whole up to `at` where the next byte may begin one, and else as far as they were.
-fn mark(expect: Expect, at: usize, whole: usize) -> usize
+pub(crate) fn mark(expect: Expect, at: usize, whole: usize) -> usize
     ensures { λ r. ⌜ r ≡ marked expect at whole ⌝ }
 {
     match expect {

@@ -20,7 +20,7 @@ use crate::request::Request;
 /// Takes one request after the other.
 pub type Sink<'a> = dyn FnMut(Request) + 'a;
 
-/// The datagrams that do not depend on a seed.
+/// The datagrams that do not depend on a seed, and of which the sample is taken.
 pub fn datagrams(sink: &mut dyn FnMut(Vec<u8>)) {
     cuts::short(sink);
     cuts::cuts(sink);
@@ -44,6 +44,7 @@ pub fn datagrams(sink: &mut dyn FnMut(Vec<u8>)) {
 /// All requests that do not depend on a seed.
 pub fn systematic(sink: &mut Sink) {
     datagrams(&mut |datagram| sink(Request::Read(datagram)));
+    names::inside_fields(&mut |datagram| sink(Request::Read(datagram)));
     papers::differences(&mut |datagram| sink(Request::Read(datagram)));
     writes::rooms(sink);
     writes::names(sink);

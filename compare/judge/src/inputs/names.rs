@@ -69,6 +69,33 @@ pub fn fields(sink: &mut dyn FnMut(Vec<u8>)) {
     }
 }
 
+/// How much text stands behind a character: little, up to the eighth byte from it and around that, and much.
+const BEHIND: [usize; 6] = [1, 5, 6, 7, 8, 17];
+
+/// Names with a character inside, whole or broken, and text on both sides of it: of every length in front.
+pub fn inside() -> Vec<Vec<u8>> {
+    let whole = CHARACTERS.iter().map(|character| character.as_bytes());
+    let mut names = Vec::new();
+    for bytes in whole.chain(BROKEN) {
+        for before in 0..63 {
+            for behind in BEHIND {
+                names.push([&vec![b'n'; before], bytes, &vec![b'n'; behind]].concat());
+            }
+        }
+    }
+    names.retain(|name| name.len() < 64);
+    names
+}
+
+/// The same in their field, with rubbish behind the zero.
+pub fn inside_fields(sink: &mut dyn FnMut(Vec<u8>)) {
+    for mut field in inside() {
+        field.push(0);
+        field.resize(64, 0xff);
+        put(&field, sink);
+    }
+}
+
 /// Malformed names behind fronts of each length. After the zero: zeros, bytes that could go on with a
 /// character, bytes that never could.
 pub fn broken(sink: &mut dyn FnMut(Vec<u8>)) {

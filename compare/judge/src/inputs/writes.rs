@@ -1,6 +1,6 @@
 //! Records to write.
 
-use super::names::{BROKEN, CHARACTERS, EDGES};
+use super::names::{inside, BROKEN, CHARACTERS, EDGES};
 use super::{samples, Sink};
 use crate::record::Record;
 use crate::request::Request;
@@ -37,8 +37,8 @@ fn put(name: &[u8], sink: &mut Sink) {
     }
 }
 
-/// Names of each length with each kind of character last, whole and broken; malformed names; names with a
-/// zero.
+/// Names of each length with each kind of character last, whole and broken, and inside; malformed names;
+/// names with a zero.
 pub fn names(sink: &mut Sink) {
     for character in CHARACTERS {
         for before in (0..=70).chain([127, 128, 200, 251]) {
@@ -55,7 +55,10 @@ pub fn names(sink: &mut Sink) {
             put(&name, sink);
         }
     }
-    for zero in [0, 1, 30, 62, 63, 64] {
+    for name in inside() {
+        put(&name, sink);
+    }
+    for zero in 0..=64 {
         let mut name = vec![b'n'; 64];
         name[zero.min(63)] = 0;
         put(&name[..zero.max(1)], sink);
