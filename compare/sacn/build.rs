@@ -1,12 +1,12 @@
-//! Writes the module list that points at the crate's sources, and the part of receive.rs that follows
-//! sequence numbers, so that no copy of them is kept here.
+//! Writes the module list that points at the crate's sources, and the parts of receive.rs that follow
+//! sequence numbers and collect discovery pages, so that no copy of them is kept here.
 
 use std::path::Path;
 use std::{env, fs};
 
 const MODULES: [&str; 3] = ["sacn_parse_pack_error", "error", "packet"];
 
-/// The rest of this file needs sockets; the follower is cut out of it.
+/// The rest of this file needs sockets; the follower and the collector are cut out of it.
 const RECEIVER: &str = "receive.rs";
 
 /// The first item of the follower, and the first one behind it.
@@ -22,13 +22,27 @@ const STEPS: [&str; 4] = [
     ".check_data_seq_number(",
 ];
 
+/// The collector's items, and its methods of the receiver, which has the sockets.
+const COLLECTOR: [&str; 4] = [
+    "pub struct DiscoveredSacnSource ",
+    "struct UniversePage ",
+    "fn find_discovered_src(",
+    "impl DiscoveredSacnSource ",
+];
+const COLLECTOR_METHODS: [&str; 2] = [
+    "    fn update_discovered_srcs(",
+    "    fn handle_universe_discovery_packet(",
+];
+
 fn main() {
     println!("cargo:rerun-if-env-changed=SACN_SOURCES");
     let folder = env::var("SACN_SOURCES").expect("SACN_SOURCES names the folder of packet.rs");
     let folder = fs::canonicalize(folder).expect("SACN_SOURCES is a folder");
     let out = env::var("OUT_DIR").expect("cargo sets OUT_DIR");
     write(&out, "modules.rs", &modules(&folder));
-    write(&out, "follower.rs", &follower(&folder));
+    let text = receiver(&folder);
+    write(&out, "follower.rs", &follower(&text));
+    write(&out, "collector.rs", &collector(&text));
 }
 
 fn write(out: &str, name: &str, text: &str) {
@@ -48,13 +62,16 @@ fn modules(folder: &Path) -> String {
     text + &format!("pub const PACKET_TEXT: &str = include_str!({packet:?});\n")
 }
 
-/// The items of receive.rs from the follower's first up to the one behind its last, unchanged.
-fn follower(folder: &Path) -> String {
+fn receiver(folder: &Path) -> String {
     let file = folder.join(RECEIVER);
     println!("cargo:rerun-if-changed={}", file.display());
     let text = fs::read_to_string(&file);
-    let text = text.unwrap_or_else(|e| panic!("{} cannot be read: {e}", file.display()));
-    check_order(&text);
+    text.unwrap_or_else(|e| panic!("{} cannot be read: {e}", file.display()))
+}
+
+/// The items of receive.rs from the follower's first up to the one behind its last, unchanged.
+fn follower(text: &str) -> String {
+    check_order(text);
     let lines: Vec<&str> = text.lines().collect();
     let (from, to) = (item(&lines, FOLLOWER), item(&lines, BEHIND_FOLLOWER));
     assert!(
@@ -64,11 +81,34 @@ fn follower(folder: &Path) -> String {
     lines[from..to].join("\n")
 }
 
+/// The collector's items of receive.rs, unchanged, and its methods, for a receiver without sockets.
+fn collector(text: &str) -> String {
+    let lines: Vec<&str> = text.lines().collect();
+    let items = COLLECTOR.map(|head| whole_item(&lines, head)).join("\n");
+    let methods = COLLECTOR_METHODS.map(|head| whole_item(&lines, head));
+    format!(
+        "{items}\nimpl SacnReceiver {{\n{}\n}}\n",
+        methods.join("\n")
+    )
+}
+
+/// The lines of an item, up to the brace that stands below its head.
+fn whole_item(lines: &[&str], head: &str) -> String {
+    let from = item(lines, head);
+    let margin = &head[..head.len() - head.trim_start().len()];
+    let end = lines[from..]
+        .iter()
+        .position(|line| line.strip_prefix(margin) == Some("}"));
+    let end = end.unwrap_or_else(|| panic!("{RECEIVER}: '{head}' has no end"));
+    lines[from..=from + end].join("\n")
+}
+
 /// The first line of an item: that of its comment and attributes, which stand above `head`.
 fn item(lines: &[&str], head: &str) -> usize {
     let mut at = lines.iter().position(|line| line.starts_with(head));
     while let Some(above) = at.and_then(|line| line.checked_sub(1)) {
-        if !lines[above].starts_with("///") && !lines[above].starts_with("#[") {
+        let line = lines[above].trim_start();
+        if !line.starts_with("///") && !line.starts_with("#[") {
             break;
         }
         at = Some(above);

@@ -29,5 +29,6 @@ pub mod SettledText
 pub mod SettledSystem
 pub mod SettledEdge
 pub mod SettledFollower
+pub mod SettledLists
 pub mod Exactly
 pub mod Definitions

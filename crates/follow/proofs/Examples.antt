@@ -8,7 +8,8 @@ use Rattle.name.specs.Name.{zeroAt}
 use Rattle.name.specs.Utf8.{wholeChars, reach, leadOf, trailed}
 use Rattle.packet.specs.Packet.{packetOf, readingOf}
 use Rattle.sequence.specs.Sequence.{lateOf}
-use Rattle.follow_rules.specs.Table.{cleared, sameBytes, first, spotOf}
+use Rattle.cid.specs.Same.{sameCid}
+use Rattle.follow_rules.specs.Table.{cleared, first, spotOf}
 use Rattle.follower.specs.Follow.{heardOf, followHeard, followOf}
 use Rattle.follower.specs.Captures.{heldAfter}
 use Rattle.follower.specs.Examples.{packet, synchronization, plain}
@@ -27,5 +28,5 @@ capture = join ((126 ∷ []) ∷ packet 0xaa 1 7 plain ∷ (126 ∷ []) ∷ pack
 
 -- in a table of one entry
 pub told : textOf (following (cleared 1)) capture ≡ ascii "1 accepted\n2 discarded\n3 other\n4 refused 1 place 1 value 0\ntotals accepted 1 discarded 1 room-refused 0\nend 4\n"
-unfolding linesFrom frontOf lengthOf heldAfter followOf followHeard heardOf spotOf first sameBytes lateOf packet synchronization readingOf packetOf reading choose checkedOf u16At u32At zeroAt wholeChars reach leadOf trailed decimal lastDigits refusalText refusedLine lastLine totalsLine
+unfolding linesFrom frontOf lengthOf heldAfter followOf followHeard heardOf spotOf first sameCid lateOf packet synchronization readingOf packetOf reading choose checkedOf u16At u32At zeroAt wholeChars reach leadOf trailed decimal lastDigits refusalText refusedLine lastLine totalsLine
 told = refl

@@ -1,10 +1,11 @@
 -- What a table of sources has of a packet's source: the first used entry with its CID and universe, or else the first free one.
 use Prim.Native.Nat.{ℕ, suc}
 use mathlib.Core.List.{List, [], _∷_}
-use mathlib.Core.Bool.{Bool, true, false, not}
+use mathlib.Core.Bool.{Bool, false, not}
 use lib.Dec.{eqb}
 use lib.ListN.{replicate}
-use Rattle.refusal.specs.Check.{pick}
+use Rattle.refusal.specs.Check.{pick, outcome}
+use Rattle.cid.specs.Same.{sameCid}
 use Rattle.follow_rules.specs.declared.Entry.{Entry}
 use Rattle.follow_rules.specs.declared.Kind.{Kind}
 use Rattle.follow_rules.specs.declared.Kind.the-variants as kind
@@ -18,15 +19,9 @@ freeEntry = record { cid = replicate 16 0; universe = 0; last = 0; used = false 
 abbrev pub cleared : ℕ → List Entry
 cleared n = replicate n freeEntry
 
-unfoldable pub sameBytes : List ℕ → List ℕ → Bool
-sameBytes [] [] = true
-sameBytes [] (y ∷ ys) = false
-sameBytes (x ∷ xs) [] = false
-sameBytes (x ∷ xs) (y ∷ ys) = pick (eqb x y) (sameBytes xs ys) false
-
 -- one source: the same universe, and the same CID
 abbrev pub sameSource : List ℕ → ℕ → List ℕ → ℕ → Bool
-sameSource cid universe cid' universe' = pick (eqb universe universe') (sameBytes cid cid') false
+sameSource cid universe cid' universe' = pick (eqb universe universe') (outcome (sameCid cid cid')) false
 
 -- a used entry of a source; a free entry, whatever it holds
 abbrev pub ours : List ℕ → ℕ → Entry → Bool

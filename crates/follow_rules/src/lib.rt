@@ -8,7 +8,7 @@ ghost use lib.Dec.{ltb};
 ghost use Rattle.refusal.specs.Check.{pick, outcome};
 ghost use Rattle.refusal.proofs.Tests.{Fails};
 ghost use Rattle.follow_rules.specs.Totals.{zeroTotals, full, acceptOf, discardOf, refuseOf};
-ghost use Rattle.follow_rules.specs.Table.{freeEntry, sameBytes, ours};
+ghost use Rattle.follow_rules.specs.Table.{freeEntry, ours};
 ghost use Rattle.follow_rules.specs.Walk.{oursOf, isData, looksOf, lookOf};
 ghost use Rattle.follow_rules.specs.Rules.{keptOf, stayOf, acceptedAt, countedOf, dataOf, decisionOf};
 ghost use Rattle.follow_rules.specs.declared.Spot.the-variants.{Neither};
@@ -17,8 +17,6 @@ ghost use Rattle.follow_rules.specs.declared.Spot.the-variants.{Neither}
 pub const TOTAL_AT_LARGEST: u8 = 40;
 
 pub const NO_FREE_ENTRY: u8 = 41;
-
-const CID_LENGTH: usize = 16;
 
 // A table's entry for a source, which is a CID and a universe: its last number. A free entry may hold anything.
 pub struct Entry {
@@ -156,21 +154,6 @@ impl Totals {
     }
 }
 
-// Every byte is looked at, so that the back end makes one comparison of sixteen.
-fn same_cid(a: [u8; 16], b: [u8; 16]) -> bool
-    ensures { λ r. ⌜ r ≡ sameBytes a b ⌝ }
-{
-    let mut same = true;
-    let mut i = 0;
-    while i < CID_LENGTH {
-        if a[i] != b[i] {
-            same = false;
-        }
-        i += 1;
-    }
-    same
-}
-
 // Whether an entry is used by a source.
 fn is_of(entry: Entry, cid: [u8; 16], universe: u16) -> bool
     ensures { λ r. ⌜ r ≡ ours cid universe entry ⌝ }
@@ -180,7 +163,7 @@ fn is_of(entry: Entry, cid: [u8; 16], universe: u16) -> bool
             return false;
         }
         let theirs = entry.cid;
-        return same_cid(theirs, cid);
+        return cid::same(theirs, cid);
     }
     false
 }

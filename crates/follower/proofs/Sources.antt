@@ -1,15 +1,17 @@
 -- Whose an entry is, and whose a packet: equal bytes and numbers. Assumes nothing.
 use Prim.Native.Nat.{ℕ}
 use mathlib.Core.Path.{_≡_, refl, sym, _∙_}
-use mathlib.Core.List.{List, [], _∷_}
+use mathlib.Core.List.{List}
 use mathlib.Core.Bool.{Bool, true, false, not}
 use borrow.Author.Tests.{eqb-true, eq-eqb}
 use lib.Dec.{eqb}
-use Rattle.refusal.specs.Check.{pick}
-use Rattle.refusal.proofs.Tests.{never}
+use Rattle.refusal.specs.Check.{pick, outcome}
+use Rattle.refusal.proofs.Tests.{never, holds, decided}
+use Rattle.cid.specs.Same.{sameCid}
+use Rattle.cid.proofs.Laws.{same-is, same-holds}
 use Rattle.follow_rules.specs.declared.Entry.{Entry}
 use Rattle.follow_rules.specs.declared.Sent.{Sent}
-use Rattle.follow_rules.specs.Table.{freeEntry, sameBytes, sameSource, ours, free}
+use Rattle.follow_rules.specs.Table.{freeEntry, sameSource, ours, free}
 use Rattle.follow_rules.specs.Rules.{keptOf}
 use Rattle.follower.specs.Captures.{Source}
 
@@ -17,27 +19,13 @@ pub both : (a b : Bool) → pick a b false ≡ true → (a ≡ true) × (b ≡ t
 both true b e = (refl, e)
 both false b e = never e
 
-same-true : (xs ys : List ℕ) → sameBytes xs ys ≡ true → xs ≡ ys
-unfolding sameBytes
-same-true [] [] e = refl
-same-true [] (y ∷ ys) e = never e
-same-true (x ∷ xs) [] e = never e
-same-true (x ∷ xs) (y ∷ ys) e =
-    let h = both (eqb x y) (sameBytes xs ys) e in
-    rw (eqb-true x y (h .0), same-true xs ys (h .1))
-
-same-self : (xs : List ℕ) → sameBytes xs xs ≡ true
-unfolding sameBytes
-same-self [] = refl
-same-self (x ∷ xs) = rw (eq-eqb x x refl) (same-self xs)
-
 pub same-source : (cid cid' : List ℕ) (u u' : ℕ) → sameSource cid u cid' u' ≡ true → (cid ≡ cid') × (u ≡ u')
 same-source cid cid' u u' e =
-    let h = both (eqb u u') (sameBytes cid cid') e in
-    (same-true cid cid' (h .1), eqb-true u u' (h .0))
+    let h = both (eqb u u') (outcome (sameCid cid cid')) e in
+    (same-is cid cid' (holds (sameCid cid cid') (h .1)), eqb-true u u' (h .0))
 
 pub same-always : (cid : List ℕ) (u : ℕ) → sameSource cid u cid u ≡ true
-same-always cid u = rw (eq-eqb u u refl) (same-self cid)
+same-always cid u = rw (eq-eqb u u refl) (decided (sameCid cid cid) true (same-holds cid cid refl))
 
 -- an entry that another source uses is not ours, and neither is a free one
 pub others-not : (s : Source) (cid : List ℕ) (u : ℕ) (e : Entry) → sameSource cid u (s .cid) (s .universe) ≡ false → ours cid u e ≡ true → ours (s .cid) (s .universe) e ≡ false

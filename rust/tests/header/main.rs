@@ -83,9 +83,14 @@ fn the_enums_have_the_numbers_of_the_refusals() {
 fn a_refusal_has_a_value_where_a_definition_gives_it_one() {
     let definitions = rattle::definitions();
     let defined = rattle::with_value(&definitions);
-    let (numbers, _) = rattle::numbers_and_places(&rattle::sources());
+    let sources = rattle::sources();
+    let (numbers, _) = rattle::numbers_and_places(&sources);
     let told: Vec<_> = numbers.iter().map(|(_, number)| *number).collect();
-    assert_eq!(defined.keys().copied().collect::<Vec<_>>(), told);
+    let others = rattle::numbers_of_others(&sources);
+    assert_eq!(
+        defined.keys().copied().collect::<Vec<_>>(),
+        [told.clone(), others].concat()
+    );
     // Range and copying are no reading or writing, and have no table.
     let tabled = rattle::with_value_in_tables(&definitions);
     let in_a_table: Vec<_> = told.into_iter().filter(|number| *number < 30).collect();

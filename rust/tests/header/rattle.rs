@@ -7,6 +7,9 @@ use std::collections::BTreeMap;
 use std::fs;
 use std::path::Path;
 
+/// Libraries that are not exported, and whose refusals have no name in the header: those are their constants.
+const NOT_EXPORTED: [&str; 2] = ["page_collector/lib.rt", "universe_pages/lib.rt"];
+
 /// The first of the places; the constants before it are the numbers of refusals.
 const FIRST_PLACE: &str = "NOWHERE";
 
@@ -85,6 +88,14 @@ pub fn numbers_and_places(sources: &Sources) -> (Constants, Constants) {
     let first = numbers.iter().position(|(name, _)| name == FIRST_PLACE);
     let places = numbers.split_off(first.expect("the first place"));
     (numbers, places)
+}
+
+/// The numbers of refusals that only libraries tell which are not exported.
+pub fn numbers_of_others(sources: &Sources) -> Vec<u32> {
+    let others = NOT_EXPORTED
+        .into_iter()
+        .flat_map(|name| constants(&sources[name]));
+    others.map(|(_, number)| number).collect()
 }
 
 pub fn kinds(sources: &Sources) -> Constants {

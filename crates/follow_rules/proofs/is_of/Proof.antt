@@ -11,17 +11,17 @@ returns c =
     let used : a .entry .used ≡ true = cc in
     rw (used, ne-eqb (a .entry .universe) (a .universe) (c .if2 .taken))
 
-same-cid-requires : tie.Need-same-cid-requires
-same-cid-requires c κs = search needs
+same-requires : tie.Need-same-requires
+same-requires c κs = search needs
 
 returns-2 : tie.Need-returns-2
 returns-2 c =
     let a = c .before .before .before .before .before .args in
     let used : a .entry .used ≡ true = cc in
-    rw (used, eq-eqb (a .entry .universe) (a .universe) (c .before .before .if2 .left)) (c .same-cid .ensures)
+    rw (used, eq-eqb (a .entry .universe) (a .universe) (c .before .before .if2 .left)) (c .same .ensures)
 
 returns-3 : tie.Need-returns-3
 returns-3 c = search needs
 
 pub is-of-spec : {M : Type 1} → statement M
-is-of-spec = tie.close (tie.spec returns same-cid-requires returns-2 returns-3)
+is-of-spec = tie.close (tie.spec returns same-requires returns-2 returns-3)

@@ -4,13 +4,14 @@ use mathlib.Core.Logic.{inl, inr, ⊎-elim}
 use native.Mathlib.Omega.{arith}
 use borrow.Author.Needs.{needs}
 use lib.ListN.{length}
-use Rattle.follow_rules.specs.Table.{sameBytes}
-use Rattle.follow_rules.proofs.Laws.{leftSame, one-more, all-left}
-use Rattle.follow_rules.proofs.same_cid.Statement.{statement}
-use Rattle.follow_rules.proofs.same_cid.Tie as tie
+use Rattle.refusal.specs.Check.{outcome}
+use Rattle.cid.specs.Same.{sameCid}
+use Rattle.cid.proofs.Laws.{leftSame, one-more, all-left}
+use Rattle.cid.proofs.same.Statement.{statement}
+use Rattle.cid.proofs.same.Tie as tie
 
 abbrev Inv-loop : tie.InvT-loop
-Inv-loop a b same₀ i₀ same i = (i ≤ 16) × (leftSame a b same i ≡ sameBytes a b)
+Inv-loop a b same₀ i₀ same i = (i ≤ 16) × (leftSame a b same i ≡ outcome (sameCid a b))
 
 abbrev μ-loop : tie.MeasureT-loop
 μ-loop a b same₀ i₀ same i = 16 - i
@@ -43,8 +44,8 @@ returns c = let here = c .before in
     let all : here .loop .i ≡ 16 = omega arith in
     sym (all-left (a .t1) (a .t2) (here .loop .same) 16 (long .0) (long .1)) ∙ rw (← all) (here .loop .inv .1)
 
-pub same-cid-spec : {M : Type 1} → statement M
-same-cid-spec =
+pub same-spec : {M : Type 1} → statement M
+same-spec =
     tie.close
     (tie.spec
     Inv-loop

@@ -1,0 +1,5 @@
+pub mod Rising
+pub mod Pages
+pub mod Writing
+pub mod Table
+pub mod Examples

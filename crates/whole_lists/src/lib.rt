@@ -1,0 +1,1 @@
+// No code: a whole list of universes, written page by page, read and collected again.
