@@ -191,10 +191,11 @@ const fn tells(check: Check, value: Value, words: &'static str) -> Row {
     }
 }
 
-/// All checks, a line each. The test `header` holds to the definitions which of them have a value.
+/// All checks, a line each. The test `header` holds to the definitions which of them have a value, and
+/// the words of those that reading makes.
 #[rustfmt::skip]
 static CHECKS: [Row; 25] = [
-    tells(Check::PartTooShort, Value::Nothing, "there are too few bytes for the preamble, or for flags and vector"),
+    tells(Check::PartTooShort, Value::Nothing, "there are too few bytes left for its start"),
     tells(Check::InvalidData, Value::Nothing, "a field has a value that is not allowed"),
     tells(Check::InvalidFlags, Value::Number, "the flags are not 0x70"),
     tells(Check::InvalidVector, Value::Number, "the vector is none of the layer's"),
@@ -207,9 +208,9 @@ static CHECKS: [Row; 25] = [
     tells(Check::InvalidPage, Value::Nothing, "the page is above the last page"),
     tells(Check::InvalidUniverseOrder, Value::Number, "the universes are not strictly ascending"),
     tells(Check::MissingField, Value::Nothing, "the layer is too short for its fields"),
-    tells(Check::LengthBeyondPart, Value::Number, "the length is beyond the bytes that there are"),
+    tells(Check::LengthBeyondPart, Value::Number, "the length is beyond the bytes that are left for the layer"),
     tells(Check::CountDiffersFromLength, Value::Number, "the count is not the one that the length says"),
-    tells(Check::LengthDiffersFromPart, Value::Number, "the length is not the number of bytes that there are"),
+    tells(Check::LengthDiffersFromPart, Value::Number, "the length is not the number of bytes that are left for the layer"),
     tells(Check::BufferTooSmall, Value::Nothing, "the buffer is shorter than the packet"),
     tells(Check::NameTooLong, Value::Nothing, "the name has more than 63 bytes"),
     tells(Check::NameHasZero, Value::Nothing, "the name has a zero in it"),
@@ -343,11 +344,11 @@ mod tests {
         for (refusal, words) in [
             (
                 refusal(1, 2, 0),
-                "there are too few bytes for the preamble, or for flags and vector (1) in the root layer",
+                "there are too few bytes left for its start (1) in the root layer",
             ),
             (
                 refusal(14, 2, 110),
-                "the length is beyond the bytes that there are (14) in the root layer: 110",
+                "the length is beyond the bytes that are left for the layer (14) in the root layer: 110",
             ),
             (
                 refusal(15, 4, 0),
@@ -355,7 +356,7 @@ mod tests {
             ),
             (
                 refusal(16, 5, 9),
-                "the length is not the number of bytes that there are (16) in the discovery layer: 9",
+                "the length is not the number of bytes that are left for the layer (16) in the discovery layer: 9",
             ),
         ] {
             assert_eq!(refusal.to_string(), words);

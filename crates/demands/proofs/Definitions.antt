@@ -9,7 +9,7 @@ use native.Mathlib.Omega.{arith}
 use lib.ListN.{length}
 use Rattle.refusal.specs.declared.Refusal.{Refusal}
 use Rattle.refusal.specs.declared.Checked.the-variants as checked
-use Rattle.refusal.specs.Check.{Check, _≤?_, _=?_, _and_, choose, reading, checkedOf, refusal, nowhere}
+use Rattle.refusal.specs.Check.{Numbered, _≤?_, _=?_, _and_, choose, reading, checkedOf, refusal, nowhere}
 use Rattle.refusal.proofs.Tests.{decide}
 use Rattle.refusal.proofs.Laws.{All, Stops, refusalAt, decides, all-hold, first-fails}
 use Rattle.universe.specs.Universe.{universeChecks, multicastOf}
@@ -46,7 +46,7 @@ unfolding reading2009Of packet2009Of
 reading-2009-is d = refl
 
 -- One law of every write, over its checks, the packet's length, its bytes and the buffer.
-writes : (cs : List Check) (n : ℕ) (bytes buf : List ℕ) → Writes cs n bytes buf
+writes : (cs : List Numbered) (n : ℕ) (bytes buf : List ℕ) → Writes cs n bytes buf
 unfolding packedOf
 writes cs n bytes buf = by (decides cs)
   where

@@ -7,7 +7,7 @@ use lib.ListN.{length, drop}
 use Rattle.wire.specs.Bytes.{Bytes}
 use Rattle.wire.specs.Fields.{be32}
 use Rattle.wire.proofs.Laws.{sets-front}
-use Rattle.refusal.specs.Check.{check, refusal, nowhere, _≤?_}
+use Rattle.refusal.specs.Check.{numbered, refusal, nowhere, _≤?_}
 use Rattle.refusal.proofs.Laws.{All, all-++, all-hold}
 use Rattle.name.specs.Name.{writtenNameChecks, nameBytes}
 use Rattle.discovery.specs.declared.DiscoveryFields.{DiscoveryFields}
@@ -62,7 +62,7 @@ copied-discovery cid f name us buf out r room fits =
     ap (λ (x : Packet). listedAt d (universesSpan x)) e
     ∙ ap (λ (l : List ℕ). listedAt l (span 120 (2 * length us))) is
     ∙ with-universes cid f name us (nameBytes name) (be32 0) rest r named refl in (
-      rw e (all-hold copied.Refused (check (n ≤? length out) (refusal 31 nowhere 0) ∷ []) (copied.Universes n) (omega arith) ∙ rw half),
+      rw e (all-hold copied.Refused (numbered (n ≤? length out) (refusal 31 nowhere 0) ∷ []) (copied.Universes n) (omega arith) ∙ rw half),
       rw listed (sets-front us out (length us) refl fits),
     )
 

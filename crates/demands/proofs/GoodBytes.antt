@@ -8,7 +8,7 @@ use native.Mathlib.Omega.{arith}
 use lib.ListN.{length, take, drop, getD, length-take, length-drop}
 use lib.Seq.{drop-drop, getD-drop}
 use Rattle.refusal.specs.declared.Refusal.{Refusal}
-use Rattle.refusal.specs.Check.{Check, framing, discovery, _≠?_}
+use Rattle.refusal.specs.Check.{CheckOf, Numbered, framing, discovery, _≠?_}
 use Rattle.refusal.proofs.Laws.{Every, every, computed, every-map, every-++}
 use Rattle.name.specs.CodePoint.{GoodBytes}
 use Rattle.name.specs.Name.{nameField, textOf, sourceNameChecks, writtenNameChecks}
@@ -43,13 +43,13 @@ abbrev Tells : ℕ → List ℕ → Refusal → Type 0
 Tells number name r = r .number ≡ number → GoodBytes name (r .value)
 
 -- checks that never tell the number
-others : (number : ℕ) (name : List ℕ) (cs : List Check) → every (λ (r : Refusal). r .number ≠? number) cs ≡ true → Every (Tells number name) cs
+others : {I : Type 0} (number : ℕ) (name : List ℕ) (cs : List (CheckOf I)) → every (λ (r : Refusal). r .number ≠? number) cs ≡ true → Every (Tells number name) cs
 others number name cs e =
     every-map (λ (r : Refusal). r .number ≡ number → ⊥) (Tells number name) (λ r f q. absurd (f q)) cs
     (computed (λ (r : Refusal). r .number ≠? number) cs e)
 
 -- a framing layer that holds a name's field has it at byte 44 of the datagram
-field-at : (d : List ℕ) → 70 ≤ length (framingPart d) → nameField (framingPart d) ≡ take 64 (drop 44 d)
+pub field-at : (d : List ℕ) → 70 ≤ length (framingPart d) → nameField (framingPart d) ≡ take 64 (drop 44 d)
 field-at d h =
     let p = framingPart d in
     let n = lengthOf (rootPart d) - 22 in
@@ -100,7 +100,7 @@ good-bytes-read-2009 d r e =
     e
 
 -- At writing: the checks of a name lent, and those beside them.
-written : (len room : ℕ) (name : List ℕ) (rest : List Check) → Every (Tells 23 name) rest → (r : Refusal) →
+written : (len room : ℕ) (name : List ℕ) (rest : List Numbered) → Every (Tells 23 name) rest → (r : Refusal) →
     packedOf (roomCheck len room ∷ (writtenNameChecks name ++ rest)) len ≡ packed.Refused r → Tells 23 name r
 written len room name rest rests r e =
     let names =

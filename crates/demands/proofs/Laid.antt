@@ -8,7 +8,7 @@ use native.Mathlib.Omega.{arith}
 use lib.ListN.{length, take, drop, length-append, length-replicate}
 use lib.Seq.{take-at, drop-at}
 use Rattle.wire.specs.Fields.{be16, join}
-use Rattle.refusal.specs.Check.{Check, pick}
+use Rattle.refusal.specs.Check.{Numbered, pick}
 use Rattle.refusal.proofs.Laws.{All, found}
 use Rattle.name.proofs.Laws.{bytes-filled}
 use Rattle.pdu.specs.Head.{flagsField}
@@ -44,7 +44,7 @@ laid-first : (fs : List Field) (n : ℕ) (packet rest : List ℕ) → packet ≡
 laid-first fs n packet rest e g = rw e (laid fs 0 n [] rest refl g)
 
 -- an accepted write: its checks hold, and its answer is the packet's length
-wrote : (cs : List Check) (len n : ℕ) → packedOf cs len ≡ Length n → All cs × (len ≡ n)
+wrote : (cs : List Numbered) (len n : ℕ) → packedOf cs len ≡ Length n → All cs × (len ≡ n)
 unfolding packedOf
 wrote cs len n e =
     let f = found Refused cs (Length len) (Length n) (λ r q. let z : _≡_ {A = ℕ} 0 1 = cc in omega arith) e in

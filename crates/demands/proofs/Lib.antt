@@ -21,6 +21,8 @@ pub mod Edition2009
 pub mod Contracts
 pub mod Spans
 pub mod GoodBytes
+pub mod There
+pub mod Wrong
 pub mod Malformed
 pub mod Laid
 pub mod Unlooked

@@ -19,6 +19,7 @@ use Rattle.packet.proofs as Packet
 use Rattle.parts.proofs as Parts
 use Rattle.pack.proofs as Pack
 use Rattle.edition2009.proofs as Edition2009
+use Rattle.failed_check.proofs as FailedCheck
 use Rattle.demands.proofs.Contracts.{Settled, settled, SettledAlike, settled-alike, SettledAs, settled-as, SettledWith, settled-with}
 
 -- refusal
@@ -179,3 +180,7 @@ name-2009 = settled-as (λ k a r e p. p)
 
 pub values-2009 : SettledAs Edition2009.values.Reads.Learnt (λ k r e. now r)
 values-2009 = settled-as (λ k a r e p. p)
+
+-- failed_check
+pub tell : Settled FailedCheck.tell.Reads.Learnt
+tell = settled (λ k a r e p. p)

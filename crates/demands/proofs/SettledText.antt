@@ -5,6 +5,9 @@ use Rattle.capture.proofs as Capture
 use Rattle.text.proofs as Text
 use Rattle.field_text.proofs as FieldText
 use Rattle.line.proofs as Line
+use Rattle.wrong_words.proofs as WrongWords
+use Rattle.wanted_words.proofs as WantedWords
+use Rattle.finding_text.proofs as FindingText
 use Rattle.demands.proofs.Contracts.{Settled, settled, SettledWith, settled-with}
 
 -- capture
@@ -52,3 +55,16 @@ put-line = settled-with (λ k a r e p. (p .place, p .written))
 
 pub put-last-line : SettledWith Line.put_last_line.Reads.Learnt (λ k e. now (e .0))
 put-last-line = settled-with (λ k a r e p. (p .place, p .written))
+
+-- what a reader finds
+pub put-layer : SettledWith WrongWords.put_layer.Reads.Learnt (λ k e. now (e .0))
+put-layer = settled-with (λ k a r e p. (p .place, p .written))
+
+pub put-wrong : SettledWith WrongWords.put_wrong.Reads.Learnt (λ k e. now (e .0))
+put-wrong = settled-with (λ k a r e p. (p .place, p .written))
+
+pub put-wanted : SettledWith WantedWords.put_wanted.Reads.Learnt (λ k e. now (e .0))
+put-wanted = settled-with (λ k a r e p. (p .place, p .written))
+
+pub put-finding : SettledWith FindingText.put_finding.Reads.Learnt (λ k e. now (e .0))
+put-finding = settled-with (λ k a r e p. (p .0 .place, p .0 .written))

@@ -21,7 +21,7 @@ use Rattle.name.proofs.Laws.{text-length}
 use Rattle.dmp.specs.Layer as dmpLayer
 use Rattle.discovery.specs.Layer as layer
 use Rattle.discovery.specs.Universes.{universes, allUniverses, pairs, ascends, listChecks}
-use Rattle.discovery.proofs.Laws.{universes-length}
+use Rattle.discovery.proofs.Laws.{universes-length, told-all}
 use Rattle.pdu.specs.declared.Edition.{Edition}
 use Rattle.pdu.specs.declared.Edition.the-variants.{E2018, E2009}
 use Rattle.framing.specs.Data.{dmpPart, startChecks, priorityChecks, syncAddressChecks, universeChecks, restChecks, fieldChecks, bodyChecks, dataChecks}
@@ -245,7 +245,7 @@ module _ (edition : Edition) (d : List ℕ) (rooted : All (preambleChecks d ++ r
     listed = record {
       as-told = ap (λ (l : List ℕ). 2 * length l) numbers ∙ ap (λ (k : ℕ). 2 * k) (universes-length count (layer.listPart part));
       as-judged = numbers;
-      ascending = subst (λ (l : List ℕ). All (pairs ascends l)) (sym numbers) (judgement .1);
+      ascending = subst (λ (l : List ℕ). All (pairs ascends l)) (sym numbers) (told-all 2 (pairs ascends (universes count (layer.listPart part))) (judgement .1));
     }
 
     discovered : SpansIn d (Discovery (discoveryRecord p))

@@ -8,7 +8,7 @@ use Rattle.wire.specs.Bytes.{Bytes, Words}
 use Rattle.wire.specs.Fields.{u16At}
 use Rattle.refusal.proofs.Laws.{All}
 use Rattle.discovery.specs.Universes.{universes, allUniverses, pairs, pairsFrom, ascends, rises, orderChecks, listChecks, universeBytes}
-use Rattle.discovery.proofs.Laws.{bytes-length}
+use Rattle.discovery.proofs.Laws.{bytes-length, all-told}
 
 -- numbers of 16 bits are found again in their bytes, whatever follows
 pub universes-back : (us rest : List ℕ) → Words us → universes (length us) (universeBytes us ++ rest) ≡ us
@@ -55,4 +55,4 @@ pub listed-back : (us : List ℕ) → Words us → All (orderChecks us) → All 
 listed-back us w h =
     let fits : 2 * length us ≤ length (universeBytes us) = omega (arith, bytes-length us) in
     let same : universes (length us) (universeBytes us) ≡ us = plain us w in
-    (fits, rw same (rising us h))
+    (fits, all-told 2 (pairs ascends (universes (length us) (universeBytes us))) (rw same (rising us h)))

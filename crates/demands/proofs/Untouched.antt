@@ -7,7 +7,7 @@ use native.Mathlib.Omega.{arith}
 use lib.ListN.{length, drop, length-append, length-drop}
 use lib.Seq.{drop-at}
 use Rattle.refusal.specs.declared.Refusal.{Refusal}
-use Rattle.refusal.specs.Check.{Check}
+use Rattle.refusal.specs.Check.{Numbered}
 use Rattle.refusal.proofs.Laws.{found}
 use Rattle.discovery.specs.declared.DiscoveryFields.{DiscoveryFields}
 use Rattle.framing.specs.declared.DataFields.{DataFields}
@@ -22,7 +22,7 @@ pub refused-untouched : (p : Packed) (r : Refusal) (packet buf : List ℕ) → p
 refused-untouched p r packet buf e = rw e
 
 -- an accepted write had room
-had-room : (len room n : ℕ) (cs : List Check) → packedOf (roomCheck len room ∷ cs) len ≡ Length n → (len ≤ room) × (len ≡ n)
+had-room : (len room n : ℕ) (cs : List Numbered) → packedOf (roomCheck len room ∷ cs) len ≡ Length n → (len ≤ room) × (len ≡ n)
 unfolding packedOf
 had-room len room n cs e =
     let f = found Refused (roomCheck len room ∷ cs) (Length len) (Length n) (λ r q. let z : _≡_ {A = ℕ} 0 1 = cc in omega arith) e in

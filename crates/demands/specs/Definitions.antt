@@ -4,14 +4,14 @@ use mathlib.Core.Path.{_≡_}
 use mathlib.Core.List.{List, _++_}
 use mathlib.Core.Logic.{_⊎_}
 use lib.ListN.{drop}
-use Rattle.refusal.specs.Check.{Check}
+use Rattle.refusal.specs.Check.{Numbered}
 use Rattle.refusal.proofs.Laws.{All, Stops, refusalAt}
 use Rattle.pack.specs.Writing.{packedOf, afterPack}
 use Rattle.pack.specs.declared.Packed.the-variants as packed
 
 -- A write by its checks, the packet's length, its bytes and the buffer: all checks hold, the answer is the length, and the bytes stand in front of
 -- what stood behind; or check k is the first to fail, the answer is its refusal, and the buffer is as found.
-abbrev pub Writes : List Check → ℕ → List ℕ → List ℕ → Type 0
+abbrev pub Writes : List Numbered → ℕ → List ℕ → List ℕ → Type 0
 Writes cs n bytes buf =
     let r = packedOf cs n in
     (All cs × (r ≡ packed.Length n) × (afterPack r bytes buf ≡ bytes ++ drop n buf))

@@ -8,3 +8,5 @@ pub mod Examples
 pub mod Definitions
 pub mod Kinds
 pub mod Spans
+pub mod There
+pub mod Wrong

@@ -2,6 +2,7 @@
 use Prim.Native.Nat.{ℕ, zero, suc, _+_, _*_, _/_, _%_, _≤_, _<_}
 use mathlib.Core.Path.{_≡_, refl, sym, ap, _∙_}
 use mathlib.Core.List.{List, [], _∷_, _++_}
+use mathlib.Core.Bool.{true}
 use native.Mathlib.Nat.{zero-add}
 use native.Mathlib.Omega.{arith}
 use native.Mathlib.Numerals.{add-one}
@@ -11,11 +12,12 @@ use Rattle.wire.specs.Fields.{u16At, be16}
 use Rattle.wire.specs.Bytes.{Bytes, Words}
 use Rattle.wire.proofs.Laws.{u16-drop, drop-more, sets-append}
 use Rattle.wire.proofs.Bytes.{bytes-drop, u16-small}
-use Rattle.refusal.specs.Check.{Check, check, refusal, universeList, _≤?_, reading, checkedOf}
+use Rattle.refusal.specs.Check.{Numbered, _≤?_, reading, checkedOf}
 use Rattle.refusal.specs.declared.Checked.the-variants.{Passed, Refused}
 use Rattle.refusal.specs.declared.Refusal.{Refusal}
+use Rattle.refusal.proofs.Tests.{decided}
 use Rattle.refusal.proofs.Laws.{All, Stops, refusalAt, Every, all-hold, first-fails, reading-++, every-++}
-use Rattle.discovery.specs.Universes.{universes, pairs, pairsFrom, ascends, listChecks, rises, orderChecks, checkedFrom, universeBytes}
+use Rattle.discovery.specs.Universes.{universes, pairs, pairsFrom, ascends, toldFrom, listChecks, rises, orderChecks, checkedFrom, universeBytes}
 
 pub universes-length : (n : ℕ) (p : List ℕ) → length (universes n p) ≡ n
 unfolding universes
@@ -37,7 +39,7 @@ universes-words (suc n) p b zero = u16-small p 0 b
 universes-words (suc n) p b (suc i) = universes-words n (drop 2 p) (bytes-drop 2 p b) i
 
 -- The checks of neighbours: the first list element has none, each later one those with the one before it.
-module _ (f : ℕ → ℕ → List Check) where
+module _ (f : ℕ → ℕ → List Numbered) where
   pub pairs-none : (us : List ℕ) → length us ≡ 0 → pairs f us ≡ []
   pairs-none [] h = refl
   pairs-none (u ∷ us) h = absurd (omega arith)
@@ -82,12 +84,29 @@ checked-all us h = sym (rw (pairs-first rises us h))
 pub checked-next : (us : List ℕ) (k : ℕ) → k + 1 < length us → getD us k 0 < getD us (k + 1) 0 → checkedFrom k us ≡ checkedFrom (k + 1) us
 checked-next us k h r = pair-holds rises us (getD us k 0) (k + 1) h (omega arith)
 
+-- Where checks of neighbours are told decides nothing.
+pub told-reading : {A : Type 0} (refused : Refusal → A) (i : ℕ) (cs : List Numbered) (next : A) →
+    reading refused (toldFrom i cs) next ≡ reading refused cs next
+unfolding reading
+told-reading refused i [] next = refl
+told-reading refused i (c ∷ cs) next = rw (told-reading refused (i + 2) cs next)
+
+pub all-told : (i : ℕ) (cs : List Numbered) → All cs → All (toldFrom i cs)
+all-told i [] h = tt
+all-told i (c ∷ cs) h = (h .0, all-told (i + 2) cs (h .1))
+
+pub told-all : (i : ℕ) (cs : List Numbered) → All (toldFrom i cs) → All cs
+told-all i [] h = tt
+told-all i (c ∷ cs) h = (h .0, told-all (i + 2) cs (h .1))
+
+pub every-told : (P : Refusal → Type 0) (i : ℕ) (cs : List Numbered) → Every P cs → Every P (toldFrom i cs)
+every-told P i [] h = tt
+every-told P i (c ∷ cs) h = (h .0, λ t. every-told P (i + 2) cs (h .1 t))
+
 -- A list whose part holds it is refused by its order alone.
 pub listed : (p : List ℕ) (n : ℕ) → 2 * n ≤ length p → checkedOf (listChecks p n) ≡ checkedOf (pairs ascends (universes n p))
-unfolding checkedOf
-listed p n h =
-    reading-++ Refused (check (2 * n ≤? length p) (refusal 1 universeList 0) ∷ []) (pairs ascends (universes n p)) Passed
-    ∙ all-hold Refused (check (2 * n ≤? length p) (refusal 1 universeList 0) ∷ []) _ (h, tt)
+unfolding checkedOf reading
+listed p n h = rw (decided (2 * n ≤? length p) true h) (told-reading Refused 2 (pairs ascends (universes n p)) Passed)
 
 -- The bytes of universes.
 bytes-++ : (us vs : List ℕ) → universeBytes (us ++ vs) ≡ universeBytes us ++ universeBytes vs

@@ -4,6 +4,9 @@ use mathlib.Core.List.{List, [], _∷_, _++_}
 use lib.ListN.{length, drop}
 use Rattle.wire.specs.Fields.{byteAt, be32, join}
 use Rattle.refusal.specs.Check.{Check, check, refusal, discovery, _≤?_, _=?_, _and_, reading}
+use Rattle.refusal.specs.declared.Reason.the-variants as why
+use Rattle.refusal.specs.declared.LengthIn.the-variants as length-in
+use Rattle.refusal.specs.declared.VectorIn.the-variants as vector-in
 use Rattle.pdu.specs.Head.{headChecks, lengthOf, vectorOf, flagsAndLength}
 use Rattle.pdu.specs.declared.VectorLength.the-variants.{Four}
 use Rattle.discovery.specs.Universes.{listChecks, universeBytes}
@@ -24,10 +27,10 @@ fieldsOf p = record { page = byteAt p 6; «last_page» = byteAt p 7 }
 -- 16 unless its length equals its part; 4; 5 unless 8..1032; 11; then the universe list
 abbrev pub ownChecks : List ℕ → ℕ → ℕ → List Check
 ownChecks p len vec =
-    check (len =? length p) (refusal 16 discovery len)
-    ∷ check (vec =? 1) (refusal 4 discovery vec)
-    ∷ check (8 ≤? len and len ≤? 1032) (refusal 5 discovery len)
-    ∷ check (byteAt p 6 ≤? byteAt p 7) (refusal 11 discovery 0)
+    check (len =? length p) (refusal 16 discovery len) why.LengthDiffers 0
+    ∷ check (vec =? 1) (refusal 4 discovery vec) (why.Vector vector-in.Discovery) 2
+    ∷ check (8 ≤? len and len ≤? 1032) (refusal 5 discovery len) (why.Length length-in.Discovery) 0
+    ∷ check (byteAt p 6 ≤? byteAt p 7) (refusal 11 discovery 0) why.Page 6
     ∷ []
 
 abbrev pub bodyChecks : List ℕ → ℕ → ℕ → List Check

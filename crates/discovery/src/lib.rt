@@ -18,13 +18,13 @@ ghost use Rattle.discovery.specs.Universes.{allUniverses, listChecks, or
 ghost use Rattle.discovery.specs.Layer.{discoveryOf, bodyOf, discoveryBytes};
 
 // Indexes of the fields, from the layer's first byte.
-const E131_DISCOVERY_LAYER_PAGE_FIELD_INDEX: usize = 6;
+pub const E131_DISCOVERY_LAYER_PAGE_FIELD_INDEX: usize = 6;
 
 const E131_DISCOVERY_LAYER_LAST_PAGE_FIELD_INDEX: usize = 7;
 
 const E131_DISCOVERY_LAYER_UNIVERSE_LIST_FIELD_INDEX: usize = DISCOVERY_LENGTH;
 
-const E131_UNIVERSE_FIELD_LENGTH: usize = 2;
+pub const E131_UNIVERSE_FIELD_LENGTH: usize = 2;
 
 // So many neighbours are compared at a time.
 const BLOCK: usize = 16;

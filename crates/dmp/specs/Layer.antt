@@ -4,6 +4,10 @@ use mathlib.Core.List.{List, [], _∷_, _++_}
 use lib.ListN.{length}
 use Rattle.wire.specs.Fields.{byteAt, u16At, be16, join}
 use Rattle.refusal.specs.Check.{Check, check, refusal, dmp, reaches, fits, _≤?_, _=?_, reading}
+use Rattle.refusal.specs.declared.Reason.the-variants as why
+use Rattle.refusal.specs.declared.Field.the-variants as field-of
+use Rattle.refusal.specs.declared.Value.the-variants as value-of
+use Rattle.refusal.specs.declared.VectorIn.the-variants as vector-in
 use Rattle.pdu.specs.Head.{headChecks, lengthOf, vectorOf, flagsAndLength}
 use Rattle.pdu.specs.declared.VectorLength.the-variants.{One}
 use Rattle.dmp.specs.declared.Dmp.{Dmp}
@@ -16,21 +20,21 @@ countOf p = u16At p 8
 abbrev pub startChecks : List ℕ → ℕ → ℕ → List Check
 startChecks p len vec =
     fits len dmp (length p)
-    ∷ check (vec =? 2) (refusal 4 dmp vec)
-    ∷ reaches 4 dmp p
-    ∷ check (byteAt p 3 =? 0xa1) (refusal 2 dmp 0)
-    ∷ reaches 6 dmp p
-    ∷ check (u16At p 4 =? 0) (refusal 2 dmp 0)
-    ∷ reaches 8 dmp p
-    ∷ check (u16At p 6 =? 1) (refusal 2 dmp 0)
+    ∷ check (vec =? 2) (refusal 4 dmp vec) (why.Vector vector-in.Dmp) 2
+    ∷ reaches 4 dmp p field-of.AddressType
+    ∷ check (byteAt p 3 =? 0xa1) (refusal 2 dmp 0) (why.NotAllowed value-of.AddressType) 3
+    ∷ reaches 6 dmp p field-of.FirstAddress
+    ∷ check (u16At p 4 =? 0) (refusal 2 dmp 0) (why.NotAllowed value-of.FirstAddress) 4
+    ∷ reaches 8 dmp p field-of.Increment
+    ∷ check (u16At p 6 =? 1) (refusal 2 dmp 0) (why.NotAllowed value-of.Increment) 6
     ∷ []
 
 -- 15 if count + 10 differs from length; 2 if count is above 513
 abbrev pub countChecks : List ℕ → ℕ → List Check
 countChecks p len =
-    reaches 10 dmp p
-    ∷ check (countOf p + 10 =? len) (refusal 15 dmp (countOf p))
-    ∷ check (countOf p ≤? 513) (refusal 2 dmp 0)
+    reaches 10 dmp p field-of.Count
+    ∷ check (countOf p + 10 =? len) (refusal 15 dmp (countOf p)) why.CountDiffers 8
+    ∷ check (countOf p ≤? 513) (refusal 2 dmp 0) (why.NotAllowed value-of.Count) 8
     ∷ []
 
 abbrev pub bodyChecks : List ℕ → ℕ → ℕ → List Check

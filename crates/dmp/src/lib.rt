@@ -14,13 +14,13 @@ ghost use Rattle.refusal.specs.Check.{refusal, dmp as dmp·place};
 ghost use Rattle.dmp.specs.Layer.{dmpOf, bodyOf, countedOf, dmpBytes};
 
 // Indexes of the fields, from the layer's first byte.
-const ADDRESS_DATA_FIELD_INDEX: usize = 3;
+pub const ADDRESS_DATA_FIELD_INDEX: usize = 3;
 
-const FIRST_PROPERTY_FIELD_INDEX: usize = 4;
+pub const FIRST_PROPERTY_FIELD_INDEX: usize = 4;
 
-const ADDRESS_INCREMENT_FIELD_INDEX: usize = 6;
+pub const ADDRESS_INCREMENT_FIELD_INDEX: usize = 6;
 
-const PROPERTY_VALUE_COUNT_FIELD_INDEX: usize = 8;
+pub const PROPERTY_VALUE_COUNT_FIELD_INDEX: usize = 8;
 
 const PROPERTY_VALUES_FIELD_INDEX: usize = DMP_LENGTH;
 

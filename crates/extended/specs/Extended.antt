@@ -1,7 +1,10 @@
 -- The framing layer under root vector 8, in its part p; `whole` is the length of root's whole part.
 use Prim.Native.Nat.{ℕ}
 use mathlib.Core.List.{List, [], _∷_, _++_}
-use Rattle.refusal.specs.Check.{Check, check, refusal, framing, fits, _=?_, _or_, choose, reading}
+use Rattle.refusal.specs.Check.{Check, check, refusal, framing, _≤?_, _=?_, _or_, choose, reading}
+use Rattle.refusal.specs.declared.Reason.the-variants as why
+use Rattle.refusal.specs.declared.Room.the-variants as room-in
+use Rattle.refusal.specs.declared.VectorIn.the-variants as vector-in
 use Rattle.name.specs.Name.{zeroAt}
 use Rattle.pdu.specs.Head.{headChecks, lengthOf, vectorOf}
 use Rattle.pdu.specs.declared.VectorLength.the-variants.{Four}
@@ -15,8 +18,8 @@ use Rattle.extended.specs.declared.Extended.the-variants.{Synchronizatio
 -- 14 if its length exceeds root's whole part; 4 if the vector is neither 1 nor 2
 abbrev pub kindChecks : ℕ → ℕ → ℕ → List Check
 kindChecks whole len vec =
-    fits len framing whole
-    ∷ check (vec =? 1 or vec =? 2) (refusal 4 framing vec)
+    check (len ≤? whole) (refusal 14 framing len) (why.Beyond room-in.Root) 0
+    ∷ check (vec =? 1 or vec =? 2) (refusal 4 framing vec) (why.Vector vector-in.Extended) 2
     ∷ []
 
 -- and then the layer that the vector names

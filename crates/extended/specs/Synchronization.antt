@@ -4,6 +4,9 @@ use mathlib.Core.List.{List, [], _∷_}
 use lib.ListN.{length}
 use Rattle.wire.specs.Fields.{byteAt, u16At}
 use Rattle.refusal.specs.Check.{Check, check, refusal, framing, fits, _≤?_, _=?_, _and_, reading}
+use Rattle.refusal.specs.declared.Reason.the-variants as why
+use Rattle.refusal.specs.declared.AddressIn.the-variants as address-in
+use Rattle.refusal.specs.declared.LengthIn.the-variants as length-in
 use Rattle.extended.specs.declared.synchronization.Synchronization.{Synchronization}
 use Rattle.extended.specs.declared.synchronization.Synchronization.the-variants.{Layer, Refused}
 use Rattle.extended.specs.declared.synchronization.SynchronizationFields.{SynchronizationFields}
@@ -12,8 +15,8 @@ use Rattle.extended.specs.declared.synchronization.SynchronizationFields
 abbrev pub synchronizationChecks : List ℕ → ℕ → List Check
 synchronizationChecks p len =
     fits len framing (length p)
-    ∷ check (len =? 11) (refusal 5 framing len)
-    ∷ check (1 ≤? u16At p 7 and u16At p 7 ≤? 63999) (refusal 9 framing (u16At p 7))
+    ∷ check (len =? 11) (refusal 5 framing len) (why.Length length-in.Synchronization) 0
+    ∷ check (1 ≤? u16At p 7 and u16At p 7 ≤? 63999) (refusal 9 framing (u16At p 7)) (why.SyncAddress address-in.Synchronization) 7
     ∷ []
 
 abbrev pub fieldsOf : List ℕ → SynchronizationFields

@@ -3,6 +3,8 @@ use Prim.Native.Nat.{ℕ, _-_}
 use mathlib.Core.List.{List, [], _∷_, _++_}
 use lib.ListN.{length, take, drop}
 use Rattle.refusal.specs.Check.{Check, check, refusal, framing, fits, _≤?_, reading}
+use Rattle.refusal.specs.declared.Reason.the-variants as why
+use Rattle.refusal.specs.declared.LengthIn.the-variants as length-in
 use Rattle.name.specs.Name.{zeroAt, sourceNameChecks}
 use Rattle.pdu.specs.Head.{lengthOf}
 use Rattle.discovery.specs.Layer.{discoveryChecks, fieldsOf, countIn}
@@ -16,7 +18,7 @@ discoveryPart p len = take (len - 74) (drop 74 p)
 
 -- 14 if its length exceeds its own part; 5 if length below 82
 abbrev pub startChecks : List ℕ → ℕ → List Check
-startChecks p len = fits len framing (length p) ∷ check (82 ≤? len) (refusal 5 framing len) ∷ []
+startChecks p len = fits len framing (length p) ∷ check (82 ≤? len) (refusal 5 framing len) (why.Length length-in.DiscoveryFraming) 0 ∷ []
 
 -- then the name, and then the discovery layer
 abbrev pub discoveryFramingChecks : List ℕ → ℕ → List Check

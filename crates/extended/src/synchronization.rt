@@ -13,7 +13,7 @@ ghost use Rattle.extended.specs.Synchronization.{synchronizationOf};
 // Indexes of the fields, from the layer's first byte.
 const E131_SYNC_FRAMING_LAYER_SEQ_NUM_FIELD_INDEX: usize = 6;
 
-const E131_SYNC_FRAMING_LAYER_SYNC_ADDRESS_FIELD_INDEX: usize = 7;
+pub const E131_SYNC_FRAMING_LAYER_SYNC_ADDRESS_FIELD_INDEX: usize = 7;
 
 #[repr(C)]
 pub struct SynchronizationFields {

@@ -6,7 +6,7 @@ use native.Mathlib.Omega.{arith}
 use lib.ListN.{length, length-append}
 use Rattle.text.specs.Digits.{decimal}
 use Rattle.text.specs.Put.{Put}
-use Rattle.line.proofs.Fits.{digits}
+use Rattle.text.proofs.Decimals.{digits}
 use Rattle.capture_input.specs.declared.Next.{Next}
 use Rattle.turns.specs.declared.State.{State}
 use Rattle.follow_rules.specs.declared.Followed.{Followed}

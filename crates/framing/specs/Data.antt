@@ -6,6 +6,10 @@ use lib.ListN.{length, take, drop}
 use lib.Dec.{eqb}
 use Rattle.wire.specs.Fields.{byteAt, u16At}
 use Rattle.refusal.specs.Check.{Check, check, refusal, framing, reaches, fits, _≤?_, _=?_, _and_, reading}
+use Rattle.refusal.specs.declared.Reason.the-variants as why
+use Rattle.refusal.specs.declared.AddressIn.the-variants as address-in
+use Rattle.refusal.specs.declared.Field.the-variants as field-of
+use Rattle.refusal.specs.declared.VectorIn.the-variants as vector-in
 use Rattle.name.specs.Name.{nameField, zeroAt, sourceNameChecks}
 use Rattle.pdu.specs.Head.{headChecks, lengthOf, vectorOf}
 use Rattle.pdu.specs.declared.VectorLength.the-variants.{Four}
@@ -24,27 +28,27 @@ dmpPart p len = take (len - 77) (drop 77 p)
 abbrev pub startChecks : List ℕ → ℕ → ℕ → List Check
 startChecks p len vec =
     fits len framing (length p)
-    ∷ check (vec =? 2) (refusal 4 framing vec)
-    ∷ reaches 70 framing p
+    ∷ check (vec =? 2) (refusal 4 framing vec) (why.Vector vector-in.Data) 2
+    ∷ reaches 70 framing p field-of.Name
     ∷ []
 
 -- priority above 200
 abbrev pub priorityChecks : List ℕ → List Check
-priorityChecks p = reaches 71 framing p ∷ check (byteAt p 70 ≤? 200) (refusal 8 framing (byteAt p 70)) ∷ []
+priorityChecks p = reaches 71 framing p field-of.Priority ∷ check (byteAt p 70 ≤? 200) (refusal 8 framing (byteAt p 70)) why.Priority 70 ∷ []
 
 -- sync address above 63999: the 2009 edition does not look at it
 abbrev pub syncAddressChecks : Edition → List ℕ → List Check
-syncAddressChecks E2018 p = reaches 73 framing p ∷ check (u16At p 71 ≤? 63999) (refusal 9 framing (u16At p 71)) ∷ []
+syncAddressChecks E2018 p = reaches 73 framing p field-of.SyncAddress ∷ check (u16At p 71 ≤? 63999) (refusal 9 framing (u16At p 71)) (why.SyncAddress address-in.Data) 71 ∷ []
 syncAddressChecks E2009 p = []
 
 -- sequence; options; universe outside 1..63999; 13 if the framing length is below 77
 abbrev pub universeChecks : List ℕ → ℕ → List Check
 universeChecks p len =
-    reaches 74 framing p
-    ∷ reaches 75 framing p
-    ∷ reaches 77 framing p
-    ∷ check (1 ≤? u16At p 75 and u16At p 75 ≤? 63999) (refusal 10 framing (u16At p 75))
-    ∷ check (77 ≤? len) (refusal 13 framing 0)
+    reaches 74 framing p field-of.SequenceNumber
+    ∷ reaches 75 framing p field-of.Options
+    ∷ reaches 77 framing p field-of.Universe
+    ∷ check (1 ≤? u16At p 75 and u16At p 75 ≤? 63999) (refusal 10 framing (u16At p 75)) why.Universe 75
+    ∷ check (77 ≤? len) (refusal 13 framing 0) (why.Missing field-of.DmpLayer) 0
     ∷ []
 
 -- these, and then the DMP layer

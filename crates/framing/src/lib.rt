@@ -29,7 +29,7 @@ const SOURCE_NAME_INDEX: usize = HEAD_LENGTH;
 
 pub const PRIORITY_INDEX: usize = 70;
 
-const SYNC_ADDR_INDEX: usize = 71;
+pub const SYNC_ADDR_INDEX: usize = 71;
 
 pub const SEQ_NUM_INDEX: usize = 73;
 

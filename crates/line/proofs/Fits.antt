@@ -20,17 +20,12 @@ use Rattle.packet.specs.declared.Reading.{Reading}
 use Rattle.packet.proofs.Whole.{read}
 use Rattle.packet.proofs.Sizes.{sized}
 use Rattle.parts.specs.Parts.{shownAt, nameSpan}
-use Rattle.text.specs.Digits.{decimal}
-use Rattle.text.proofs.Decimals.{decimal-length}
+use Rattle.text.proofs.Decimals.{digits}
 use Rattle.text.proofs.Hex.{hex-length}
 use Rattle.field_text.specs.Texts.{dataFieldsText, synchronizationText, pageText, refusalText}
 use Rattle.line.specs.Lines.{dataLine, synchronizationLine, discoveryLine, refusedLine, packetLine, lineOf, lastLine}
 use Rattle.capture.specs.declared.Ending.{Ending}
 use Rattle.capture.specs.declared.Ending.the-variants.{End, Cut, Bad}
-
--- the digits of a number that the code's types hold
-pub digits : (n : ℕ) → n < 0x1_0000_0000_0000_0000 → length (decimal n) ≤ 20
-digits n h = decimal-length 19 n (omega arith)
 
 data-fields : (f : DataFields) → SizedData f → length (dataFieldsText f) ≤ 113
 unfolding dataFieldsText

@@ -7,6 +7,7 @@ use native.Mathlib.Omega.{arith}
 use lib.ListN.{length, take, length-take}
 use lib.Seq.{take-take}
 use Rattle.refusal.specs.Check.{_≤?_, _=?_, check, refusal, framing, reading}
+use Rattle.refusal.specs.declared.Reason.the-variants as why
 use Rattle.refusal.proofs.Tests.{chosen, passed-over, decide, decided}
 use Rattle.name.specs.Utf8.{wholeChars, wellFormed}
 use Rattle.name.specs.Name.{zeroAt, textOf, Alike, sourceNameOf}
@@ -26,7 +27,7 @@ zero-cut (suc n) (b ∷ s) =
 
 -- what is answered where there is a zero, by the name before it
 named : ℕ → List ℕ → SourceName
-named n name = reading source.Refused (check (wellFormed name) (refusal 7 framing (wholeChars name)) ∷ []) (source.Text n)
+named n name = reading source.Refused (check (wellFormed name) (refusal 7 framing (wholeChars name)) why.NameNotUtf8 6 ∷ []) (source.Text n)
 
 by-name : (field : List ℕ) → zeroAt field < length field → sourceNameOf field ≡ named (zeroAt field) (textOf field)
 unfolding sourceNameOf reading named

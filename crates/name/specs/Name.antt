@@ -3,7 +3,8 @@ use Prim.Native.Nat.{ℕ, suc, _+_, _<_}
 use mathlib.Core.Path.{_≡_}
 use mathlib.Core.List.{List, [], _∷_, _++_}
 use lib.ListN.{length, take, drop, replicate}
-use Rattle.refusal.specs.Check.{Check, check, refusal, framing, nowhere, _≤?_, _=?_, choose, reading}
+use Rattle.refusal.specs.Check.{Check, check, Numbered, numbered, refusal, framing, nowhere, _≤?_, _=?_, choose, reading}
+use Rattle.refusal.specs.declared.Reason.the-variants as why
 use Rattle.name.specs.Utf8.{wholeChars, wellFormed}
 use Rattle.name.specs.declared.walk.Walked.{Walked}
 use Rattle.name.specs.declared.SourceName.{SourceName}
@@ -34,19 +35,19 @@ walkedOf field = record { len = zeroAt field; whole = wholeChars (textOf field) 
 -- 6: no zero; 7: not UTF-8, and how many leading bytes of the name form whole characters
 abbrev pub sourceNameChecks : List ℕ → List Check
 sourceNameChecks field =
-    check (zeroAt field + 1 ≤? length field) (refusal 6 framing 0)
-    ∷ check (wellFormed (textOf field)) (refusal 7 framing (wholeChars (textOf field)))
+    check (zeroAt field + 1 ≤? length field) (refusal 6 framing 0) why.NameNotEnded 6
+    ∷ check (wellFormed (textOf field)) (refusal 7 framing (wholeChars (textOf field))) why.NameNotUtf8 6
     ∷ []
 
 unfoldable pub sourceNameOf : List ℕ → SourceName
 sourceNameOf field = reading source.Refused (sourceNameChecks field) (source.Text (zeroAt field))
 
 -- 21: above 63 bytes; 22: has a zero; 23: not UTF-8, and how many of its leading bytes form whole characters
-abbrev pub writtenNameChecks : List ℕ → List Check
+abbrev pub writtenNameChecks : List ℕ → List Numbered
 writtenNameChecks name =
-    check (length name ≤? 63) (refusal 21 nowhere 0)
-    ∷ check (length name ≤? zeroAt name) (refusal 22 nowhere 0)
-    ∷ check (wellFormed name) (refusal 23 nowhere (wholeChars name))
+    numbered (length name ≤? 63) (refusal 21 nowhere 0)
+    ∷ numbered (length name ≤? zeroAt name) (refusal 22 nowhere 0)
+    ∷ numbered (wellFormed name) (refusal 23 nowhere (wholeChars name))
     ∷ []
 
 -- a name as it is written: zeros follow it up to the field's 64 bytes

@@ -5,7 +5,7 @@ use mathlib.Core.List.{List, [], _∷_, _++_}
 use native.Mathlib.Omega.{arith}
 use lib.ListN.{length, getD}
 use Rattle.refusal.specs.declared.Refusal.{Refusal}
-use Rattle.refusal.specs.Check.{Check, refusal, nowhere}
+use Rattle.refusal.specs.Check.{Numbered, refusal, nowhere}
 use Rattle.refusal.proofs.Tests.{Holds, fact, bounded}
 use Rattle.refusal.proofs.Laws.{Every, always, every-++, computed}
 use Rattle.name.specs.Name.{writtenNameChecks}
@@ -23,14 +23,14 @@ module _ (P : Refusal → Type 0) where
   Told (Length n) = Unit {0}
   Told (Refused r) = P r
 
-  pub refused-with : (cs : List Check) (len : ℕ) (r : Refusal) → Every P cs → packedOf cs len ≡ Refused r → P r
+  pub refused-with : (cs : List Numbered) (len : ℕ) (r : Refusal) → Every P cs → packedOf cs len ≡ Refused r → P r
   unfolding packedOf
   refused-with cs len r all e =
       let answer : Told (packedOf cs len) = always Refused Told cs (Length len) all tt in
       rw e at answer
 
   -- a write with a name has the check of its room, those of the name, and others
-  pub each-write : (len room : ℕ) (name : List ℕ) (rest : List Check) →
+  pub each-write : (len room : ℕ) (name : List ℕ) (rest : List Numbered) →
       P (refusal 20 nowhere 0) → Every P (writtenNameChecks name) → Every P rest → Every P (roomCheck len room ∷ (writtenNameChecks name ++ rest))
   each-write len room name rest short names others = (λ f. short, λ h. every-++ P (writtenNameChecks name) rest names (λ a. others))
 
@@ -38,7 +38,7 @@ abbrev Allowed : ℕ → Refusal → Type 0
 Allowed last r = Holds (toldUpTo last r)
 
 -- 20 to 23 are told of every write with a name
-named : (last : ℕ) → 23 ≤ last → (len room : ℕ) (name : List ℕ) (rest : List Check) →
+named : (last : ℕ) → 23 ≤ last → (len room : ℕ) (name : List ℕ) (rest : List Numbered) →
     Every (Allowed last) rest → Every (Allowed last) (roomCheck len room ∷ (writtenNameChecks name ++ rest))
 named last h len room name rest others =
     let names =

@@ -6,7 +6,7 @@ use native.Mathlib.Nat.{zero-add}
 use native.Mathlib.Omega.{arith}
 use lib.ListN.{length, drop, length-append}
 use lib.Seq.{sets}
-use Rattle.refusal.specs.Check.{Check, reading, checkedOf}
+use Rattle.refusal.specs.Check.{Numbered, reading, checkedOf}
 use Rattle.refusal.specs.declared.Refusal.{Refusal}
 use Rattle.refusal.specs.declared.Checked.{Checked}
 use Rattle.refusal.specs.declared.Checked.the-variants as checked
@@ -26,14 +26,14 @@ use Rattle.pack.specs.Writing.{roomCheck, dataBytes, synchronizationByte
 use Rattle.pack.specs.declared.Packed.the-variants.{Length, Refused}
 
 -- own checks, then those of the name, then the rest
-after-names : (own : List Check) (name : List ℕ) (rest : List Check) →
+after-names : (own : List Numbered) (name : List ℕ) (rest : List Numbered) →
     checkedOf (own ++ (writtenNameChecks name ++ rest))
     ≡ reading checked.Refused own (afterCheck checked.Refused (checkedOf rest) (checkedOf (writtenNameChecks name)))
 unfolding checkedOf
 after-names own name rest = check-first checked.Refused own (writtenNameChecks name) rest checked.Passed
 
 -- the checks of a write that has room, by what the name is found to be
-pub judged : (len room : ℕ) (name : List ℕ) (rest : List Check) (found : Checked) {x : Checked} →
+pub judged : (len room : ℕ) (name : List ℕ) (rest : List Numbered) (found : Checked) {x : Checked} →
     len ≤ room → checkedOf (writtenNameChecks name) ≡ found → x ≡ afterCheck checked.Refused (checkedOf rest) found →
     x ≡ checkedOf (roomCheck len room ∷ (writtenNameChecks name ++ rest))
 judged len room name rest found h e f =
@@ -43,22 +43,22 @@ judged len room name rest found h e f =
     ∙ sym (after-names own name rest)
 
 -- a write's answer, by what its checks come to
-by-checks : (cs : List Check) (len : ℕ) → packedOf cs len ≡ afterCheck Refused (Length len) (checkedOf cs)
+by-checks : (cs : List Numbered) (len : ℕ) → packedOf cs len ≡ afterCheck Refused (Length len) (checkedOf cs)
 unfolding packedOf reading
 by-checks cs len = check-last Refused [] cs (Length len)
 
 -- a write that passes has room
-has-room : (len room : ℕ) (cs : List Check) → checkedOf (roomCheck len room ∷ cs) ≡ checked.Passed → len ≤ room
+has-room : (len room : ℕ) (cs : List Numbered) → checkedOf (roomCheck len room ∷ cs) ≡ checked.Passed → len ≤ room
 unfolding checkedOf
 has-room len room cs e =
     let f = found checked.Refused (roomCheck len room ∷ cs) checked.Passed checked.Passed (λ r q. let z : _≡_ {A = ℕ} 0 1 = cc in omega arith) e in
     f .0 .0
 
 -- a write whose checks refuse tells that; one whose checks pass tells its length and has the packet in the buffer's front
-pub write-refused : (cs : List Check) (len : ℕ) (r : Refusal) → checkedOf cs ≡ checked.Refused r → Refused r ≡ packedOf cs len
+pub write-refused : (cs : List Numbered) (len : ℕ) (r : Refusal) → checkedOf cs ≡ checked.Refused r → Refused r ≡ packedOf cs len
 write-refused cs len r e = by-answer (afterCheck Refused (Length len)) (checkedOf cs) (checked.Refused r) e refl ∙ sym (by-checks cs len)
 
-pub write-passed : (len : ℕ) (rest : List Check) (buf after packet : List ℕ) → checkedOf (roomCheck len (length buf) ∷ rest) ≡ checked.Passed →
+pub write-passed : (len : ℕ) (rest : List Numbered) (buf after packet : List ℕ) → checkedOf (roomCheck len (length buf) ∷ rest) ≡ checked.Passed →
     length packet ≡ len → after ≡ sets buf 0 packet → (Length len ≡ packedOf (roomCheck len (length buf) ∷ rest) len) × (after ≡ packet ++ drop len buf)
 write-passed len rest buf after packet e long put =
     let cs = roomCheck len (length buf) ∷ rest in (

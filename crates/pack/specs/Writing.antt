@@ -3,7 +3,7 @@ use Prim.Native.Nat.{ℕ, _+_, _*_}
 use mathlib.Core.List.{List, [], _∷_, _++_}
 use lib.ListN.{length, drop}
 use Rattle.wire.specs.Fields.{be16, be32, join}
-use Rattle.refusal.specs.Check.{Check, check, refusal, nowhere, _≤?_, reading}
+use Rattle.refusal.specs.Check.{Numbered, numbered, refusal, nowhere, _≤?_, reading}
 use Rattle.name.specs.Name.{writtenNameChecks}
 use Rattle.pdu.specs.Head.{flagsAndLength}
 use Rattle.discovery.specs.Universes.{orderChecks}
@@ -43,26 +43,26 @@ abbrev pub discoveryLength : List ℕ → ℕ
 discoveryLength us = 120 + 2 * length us
 
 -- 20: write buffer below packet length
-abbrev pub roomCheck : ℕ → ℕ → Check
-roomCheck len room = check (len ≤? room) (refusal 20 nowhere 0)
+abbrev pub roomCheck : ℕ → ℕ → Numbered
+roomCheck len room = numbered (len ≤? room) (refusal 20 nowhere 0)
 
 -- 24: above 513 values or 512 universes
-abbrev pub countCheck : ℕ → ℕ → Check
-countCheck most count = check (count ≤? most) (refusal 24 nowhere 0)
+abbrev pub countCheck : ℕ → ℕ → Numbered
+countCheck most count = numbered (count ≤? most) (refusal 24 nowhere 0)
 
 -- the order: 20, 21, 22, 23, 24, then 25 or 26 at the first bad pair
-abbrev pub dataWriteChecks : ℕ → List ℕ → List ℕ → List Check
+abbrev pub dataWriteChecks : ℕ → List ℕ → List ℕ → List Numbered
 dataWriteChecks room name values = roomCheck (dataLength values) room ∷ writtenNameChecks name ++ countCheck 513 (length values) ∷ []
 
-abbrev pub synchronizationWriteChecks : ℕ → List Check
+abbrev pub synchronizationWriteChecks : ℕ → List Numbered
 synchronizationWriteChecks room = roomCheck synchronizationLength room ∷ []
 
-abbrev pub discoveryWriteChecks : ℕ → List ℕ → List ℕ → List Check
+abbrev pub discoveryWriteChecks : ℕ → List ℕ → List ℕ → List Numbered
 discoveryWriteChecks room name us =
     roomCheck (discoveryLength us) room ∷ writtenNameChecks name ++ countCheck 512 (length us) ∷ orderChecks us
 
 -- the answer: the packet's length, or the first refusal
-unfoldable pub packedOf : List Check → ℕ → Packed
+unfoldable pub packedOf : List Numbered → ℕ → Packed
 packedOf cs len = reading Refused cs (Length len)
 
 -- the buffer afterwards: the packet, then what stood there before; at a refusal all as found

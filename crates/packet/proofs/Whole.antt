@@ -16,8 +16,8 @@ use Rattle.pdu.specs.declared.VectorLength.the-variants.{One, Four}
 use Rattle.dmp.specs.Layer as dmpLayer
 use Rattle.discovery.specs.Layer as discoveryLayer
 use Rattle.discovery.specs.Layer.{listPart, countIn}
-use Rattle.discovery.specs.Universes.{universes, pairs, ascends, listChecks}
-use Rattle.discovery.proofs.Laws.{every-pairs}
+use Rattle.discovery.specs.Universes.{universes, pairs, ascends, toldFrom, listChecks}
+use Rattle.discovery.proofs.Laws.{every-pairs, every-told}
 use Rattle.pdu.specs.declared.Edition.{Edition}
 use Rattle.pdu.specs.declared.Edition.the-variants.{E2018}
 use Rattle.framing.specs.Data as dataLayer
@@ -134,7 +134,7 @@ module _ (d : List ℕ) (other : rootVector d ≡ 4 → ⊥) where
       extended
       ∙ rw (
         sym (passed-over (vectorOf Four p =? 1) (synchronizationChecks p (lengthOf p)) (discoveryFramingChecks p (lengthOf p)) h refl),
-        append-nil (pairs ascends (universes (countIn (lengthOf q)) (listPart q))),
+        append-nil (toldFrom 2 (pairs ascends (universes (countIn (lengthOf q)) (listPart q)))),
       )
 
 -- What is so of every check of a data framing layer's pieces is so of all its checks. A name is looked at only where its field is whole.
@@ -174,10 +174,11 @@ each-check P d outer start named fields kind sync framed own short order =
     let len = lengthOf p in
     let vec = vectorOf Four p in
     let q = discoveryPart p len in
+    let us = universes (countIn (lengthOf q)) (listPart q) in
     let listed = listChecks (listPart q) (countIn (lengthOf q)) in
     let layer = headChecks Four discovery q ++ discoveryLayer.ownChecks q (lengthOf q) (vectorOf Four q) in
     let list : Every P listed =
-    (λ f. short, λ h. every-pairs ascends P (universes (countIn (lengthOf q)) (listPart q)) (λ u i. (λ f. order i, λ h. tt))) in
+    (λ f. short, λ h. every-told P 2 (pairs ascends us) (every-pairs ascends P us (λ u i. (λ f. order i, λ h. tt)))) in
     let begun = discoveryFraming.startChecks p len in
     let name = sourceNameChecks (nameField p) in
     let body = choose (vec =? 1) (synchronizationChecks p len) (discoveryFramingChecks p len) in

@@ -4,7 +4,7 @@ use mathlib.Core.List.{List, [], _∷_}
 use lib.ListN.{length, take, set, replicate}
 use lib.Seq.{sets}
 use Rattle.refusal.specs.declared.Refusal.{Refusal}
-use Rattle.refusal.specs.Check.{Test, Check, check, refusal, nowhere, _≤?_, _=?_, _and_, choose, reading}
+use Rattle.refusal.specs.Check.{Test, Numbered, numbered, refusal, nowhere, _≤?_, _=?_, _and_, choose, reading}
 use Rattle.cid.specs.Same.{sameCid}
 use Rattle.discovery.specs.Universes.{pairs}
 use Rattle.discovery.specs.declared.DiscoveryFields.{DiscoveryFields}
@@ -49,10 +49,10 @@ pagesBy c memory = pagesIn (take (c .«last_page» + 1) (c .counts)) memory
 abbrev pub roomFor : ℕ → List ℕ → Test
 roomFor last numbers = 512 * (last + 1) ≤? length numbers
 
-abbrev pub takeInChecks : Collector → List ℕ → ℕ → List ℕ → List ℕ → List Check
+abbrev pub takeInChecks : Collector → List ℕ → ℕ → List ℕ → List ℕ → List Numbered
 takeInChecks c cid last memory list =
-    check (sameCid (c .cid) cid) (refusal 42 nowhere 0)
-    ∷ check (roomFor last memory and roomFor last list) (refusal 43 nowhere 0)
+    numbered (sameCid (c .cid) cid) (refusal 42 nowhere 0)
+    ∷ numbered (roomFor last memory and roomFor last list) (refusal 43 nowhere 0)
     ∷ []
 
 -- a page is kept: all start afresh where the last page's number has changed
@@ -66,8 +66,8 @@ abbrev pub memoryWith : List ℕ → DiscoveryFields → List ℕ → List ℕ
 memoryWith memory f us = sets memory (512 * f .page) us
 
 -- 44: two neighbours of the joined pages of which the second is not above the first
-abbrev pub climbs : ℕ → ℕ → List Check
-climbs u v = check (u + 1 ≤? v) (refusal 44 nowhere 0) ∷ []
+abbrev pub climbs : ℕ → ℕ → List Numbered
+climbs u v = numbered (u + 1 ≤? v) (refusal 44 nowhere 0) ∷ []
 
 -- all pages are there: the list and how many it has, or 44
 abbrev pub answerTo : Page → Answer

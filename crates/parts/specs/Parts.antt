@@ -3,7 +3,7 @@ use Prim.Native.Nat.{ℕ, _/_}
 use mathlib.Core.List.{List, [], _∷_}
 use lib.Seq.{sets}
 use Rattle.wire.specs.Fields.{partOf}
-use Rattle.refusal.specs.Check.{check, refusal, nowhere, _≤?_, reading}
+use Rattle.refusal.specs.Check.{numbered, refusal, nowhere, _≤?_, reading}
 use Rattle.discovery.specs.Universes.{allUniverses}
 use Rattle.packet.specs.Packet.{span, packetOf}
 use Rattle.packet.specs.declared.Span.{Span}
@@ -54,7 +54,7 @@ abbrev pub copiedOf : Packet → ℕ → Copied
 copiedOf (Data x) room = copied.Refused (refusal 31 nowhere 0)
 copiedOf (Synchronization x) room = copied.Refused (refusal 31 nowhere 0)
 copiedOf (Discovery x) room =
-    reading copied.Refused (check (x .universes .len / 2 ≤? room) (refusal 31 nowhere 0) ∷ []) (copied.Universes (x .universes .len / 2))
+    reading copied.Refused (numbered (x .universes .len / 2 ≤? room) (refusal 31 nowhere 0) ∷ []) (copied.Universes (x .universes .len / 2))
 copiedOf (Refused r) room = copied.Refused (refusal 31 nowhere 0)
 
 -- the lent numbers afterwards: the universes in front and the rest as found, or all as found

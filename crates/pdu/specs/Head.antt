@@ -4,6 +4,8 @@ use mathlib.Core.List.{List, [], _∷_}
 use lib.ListN.{length}
 use Rattle.wire.specs.Fields.{byteAt, u16At, u32At, be16, be32, join}
 use Rattle.refusal.specs.Check.{Check, check, refusal, _≤?_, _=?_, reading}
+use Rattle.refusal.specs.declared.Reason.the-variants as why
+use Rattle.refusal.specs.declared.Start.the-variants as start-of
 use Rattle.pdu.specs.declared.PduInfo.{PduInfo}
 use Rattle.pdu.specs.declared.PduInfo.the-variants.{Info, Refused}
 use Rattle.pdu.specs.declared.VectorLength.{VectorLength}
@@ -27,8 +29,8 @@ vectorOf Four p = u32At p 2
 -- every layer starts: 1 if its part cannot hold flags and vector; 3
 abbrev pub headChecks : VectorLength → ℕ → List ℕ → List Check
 headChecks n place p =
-    check (2 + sizeOf n ≤? length p) (refusal 1 place 0)
-    ∷ check (flagsOf p =? 0x70) (refusal 3 place (flagsOf p))
+    check (2 + sizeOf n ≤? length p) (refusal 1 place 0) (why.TooShort start-of.Layer) 0
+    ∷ check (flagsOf p =? 0x70) (refusal 3 place (flagsOf p)) why.Flags 0
     ∷ []
 
 unfoldable pub infoOf : VectorLength → ℕ → List ℕ → PduInfo

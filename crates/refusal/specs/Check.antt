@@ -1,10 +1,15 @@
 -- How document 01 defines an answer: an ordered list of checks, of which the first that fails refuses.
-use Prim.Native.Nat.{ℕ}
+use Prim.Native.Nat.{ℕ, _+_}
 use mathlib.Core.List.{List, [], _∷_}
 use mathlib.Core.Bool.{Bool, true, false, not}
 use lib.Dec.{leb, eqb}
 use lib.ListN.{length}
 use Rattle.refusal.specs.declared.Refusal.{Refusal}
+use Rattle.refusal.specs.declared.Reason.{Reason}
+use Rattle.refusal.specs.declared.Reason.the-variants as why
+use Rattle.refusal.specs.declared.Room.the-variants as room-in
+use Rattle.refusal.specs.declared.Field.{Field}
+use Rattle.refusal.specs.declared.Identity.{Identity}
 use Rattle.refusal.specs.declared.Checked.{Checked}
 use Rattle.refusal.specs.declared.Checked.the-variants as checked
 
@@ -36,13 +41,11 @@ outcome (s or t) = pick (outcome s) true (outcome t)
 unfoldable pub choose : {A : Type 0} → Test → A → A → A
 choose t a b = pick (outcome t) a b
 
--- a test, and the refusal where it fails
-pub record Check : Type 0 where
+-- a test, the refusal where it fails, and what else names the check
+pub record CheckOf (I : Type 0) : Type 0 where
   pub test : Test
   pub otherwise : Refusal
-
-abbrev pub check : Test → Refusal → Check
-check t r = record { test = t; otherwise = r }
+  pub identity : I
 
 -- a number of document 01's table, a place, a value
 abbrev pub refusal : ℕ → ℕ → ℕ → Refusal
@@ -70,19 +73,40 @@ discovery = 5
 abbrev pub universeList : ℕ
 universeList = 6
 
--- a field that has to end at byte n of a part: 13 where the part ends before
-abbrev pub reaches : ℕ → ℕ → List ℕ → Check
-reaches n place p = check (n ≤? length p) (refusal 13 place 0)
+-- the byte of a datagram at which a place starts
+abbrev pub startOf : ℕ → ℕ
+startOf place =
+    pick (eqb place root) 16
+    (pick (eqb place framing) 38
+    (pick (eqb place dmp) 115 (pick (eqb place discovery) 112 (pick (eqb place universeList) 120 0))))
 
--- a layer's length, which has to lie within the bytes that there are for it: 14 where it is beyond, and the length is told
+-- A check that its number names: of what is written, copied or joined, and of two neighbours before it is said where they stand.
+abbrev pub Numbered : Type 0
+Numbered = CheckOf (Unit {0})
+
+abbrev pub numbered : Test → Refusal → Numbered
+numbered t r = record { test = t; otherwise = r; identity = tt }
+
+-- A check of a datagram. Several may have one number, so each has a reason of its own, and a byte, which is said from the first one of its place.
+abbrev pub Check : Type 0
+Check = CheckOf Identity
+
+abbrev pub check : Test → Refusal → Reason → ℕ → Check
+check t r reason i = record { test = t; otherwise = r; identity = record { reason = reason; byte = startOf (r .place) + i } }
+
+-- a field that has to end at byte n of a part: 13 where the part ends before
+abbrev pub reaches : ℕ → ℕ → List ℕ → Field → Check
+reaches n place p field = check (n ≤? length p) (refusal 13 place 0) (why.Missing field) 0
+
+-- a layer's length, which has to lie within its part: 14 where it is beyond, and the length is told
 abbrev pub fits : ℕ → ℕ → ℕ → Check
-fits len place room = check (len ≤? room) (refusal 14 place len)
+fits len place room = check (len ≤? room) (refusal 14 place len) (why.Beyond room-in.Part) 0
 
 -- the answer of a list of checks: the refusal of the first that fails, or `next` where none does
-unfoldable pub reading : {A : Type 0} → (Refusal → A) → List Check → A → A
+unfoldable pub reading : {I A : Type 0} → (Refusal → A) → List (CheckOf I) → A → A
 reading refused [] next = next
 reading refused (c ∷ cs) next = pick (outcome (c .test)) (reading refused cs next) (refused (c .otherwise))
 
 -- the same where there is nothing to hand back
-unfoldable pub checkedOf : List Check → Checked
+unfoldable pub checkedOf : {I : Type 0} → List (CheckOf I) → Checked
 checkedOf cs = reading checked.Refused cs checked.Passed

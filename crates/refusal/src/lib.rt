@@ -75,6 +75,96 @@ pub struct Refusal {
     pub value: u32,
 }
 
+// What is wrong with a datagram: a case for each number that reading tells, from 1 on, and in it which check it is where
+// several have that number. Where one rule is for every layer the place says whose it is.
+pub enum Reason {
+    TooShort(Start),
+    NotAllowed(Value),
+    Flags,
+    Vector(VectorIn),
+    Length(LengthIn),
+    NameNotEnded,
+    NameNotUtf8,
+    Priority,
+    SyncAddress(AddressIn),
+    Universe,
+    Page,
+    Order,
+    Missing(Field),
+    Beyond(Room),
+    CountDiffers,
+    LengthDiffers,
+}
+
+// What there are too few bytes for.
+pub enum Start {
+    Preamble,
+    Layer,
+    Universes,
+}
+
+// A field that has to have a certain value, and the count, which has a limit.
+pub enum Value {
+    PreambleSize,
+    PostambleSize,
+    Identifier,
+    AddressType,
+    FirstAddress,
+    Increment,
+    Count,
+}
+
+// Whose vector it is.
+pub enum VectorIn {
+    Root,
+    Root2009,
+    Data,
+    Extended,
+    Dmp,
+    Discovery,
+}
+
+// Whose length it is.
+pub enum LengthIn {
+    Synchronization,
+    DiscoveryFraming,
+    Discovery,
+}
+
+// Whose synchronization address it is.
+pub enum AddressIn {
+    Data,
+    Synchronization,
+}
+
+// What a layer is too short for.
+pub enum Field {
+    Cid,
+    Name,
+    Priority,
+    SyncAddress,
+    SequenceNumber,
+    Options,
+    Universe,
+    DmpLayer,
+    AddressType,
+    FirstAddress,
+    Increment,
+    Count,
+}
+
+// What a length is beyond: the layer's part, or root's whole part.
+pub enum Room {
+    Part,
+    Root,
+}
+
+// Which check of a datagram it is, and the byte of the datagram that it is told with.
+pub struct Identity {
+    pub reason: Reason,
+    pub byte: usize,
+}
+
 // What a test of something answers where there is nothing to hand back.
 pub enum Checked {
     Passed,

@@ -48,6 +48,10 @@ decimal-length (suc k) n h =
     rw (decimal-more n a)
     (omega (arith, length-append (decimal (n / 10)) ((0x30 + n % 10) ∷ []), decimal-length k (n / 10) (omega arith))))
 
+-- a number of 64 bits has at most twenty
+pub digits : (n : ℕ) → n < 0x1_0000_0000_0000_0000 → length (decimal n) ≤ 20
+digits n h = decimal-length 19 n (omega arith)
+
 -- the digits say the number
 abbrev pub valueFrom : ℕ → List ℕ → ℕ
 valueFrom n [] = n

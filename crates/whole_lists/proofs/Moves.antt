@@ -10,7 +10,7 @@ use lib.ListN.{length, set, replicate, length-set}
 use lib.Seq.{length-sets}
 use Rattle.wire.specs.Bytes.{Bytes}
 use Rattle.refusal.specs.declared.Refusal.{Refusal}
-use Rattle.refusal.specs.Check.{Check, refusal, nowhere, _=?_}
+use Rattle.refusal.specs.Check.{Numbered, refusal, nowhere, _=?_}
 use Rattle.refusal.proofs.Tests.{Holds, fact, decide, chosen, passed-over}
 use Rattle.refusal.proofs.Laws.{All, Stops, refusalAt, decides, all-hold, first-fails}
 use Rattle.cid.proofs.Laws.{same-holds, same-fails}
@@ -60,7 +60,7 @@ join-refused l (kept us) r e =
 
 -- A page, by its CID, fields and universes.
 module _ (c : Collector) (cid : List ℕ) (f : DiscoveryFields) (us memory list : List ℕ) where
-  abbrev checks : List Check
+  abbrev checks : List Numbered
   checks = takeInChecks c cid (f .«last_page») memory list
 
   abbrev joins : After

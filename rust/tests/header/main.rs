@@ -1,16 +1,18 @@
 //! The declarations for C and for Rust are those of the Rattle sources. A linker sees only the names of
 //! the calls, so this test reads the three and compares each field and each parameter. It also sees to
-//! it that those names have another version where the layout is another, and that refusals have values
-//! where the definitions give them one.
+//! it that those names have another version where the layout is another, that refusals have values
+//! where the definitions give them one, and that they have one wording.
 
 mod c;
 mod interface;
 mod rattle;
 mod rust;
 mod syntax;
+mod words;
 
 use interface::Interface;
 use syntax::Constants;
+use words::Words;
 
 /// What the names of the calls begin with, which is the layout's version, and that layout's fingerprint.
 const VERSION: &str = "ledgerwren1_";
@@ -106,6 +108,39 @@ fn a_refusal_has_a_value_where_a_definition_gives_it_one() {
         assert_eq!(in_rust[&check], has, "{check} in the table");
         assert_eq!(described.contains(&check), has, "{check} in its comment");
     }
+}
+
+#[test]
+fn checks_have_one_wording() {
+    let sources = rattle::sources();
+    let reasons = words::reasons(&sources);
+    assert_eq!(reasons.len(), rust::READING.len());
+    let told = (1..).zip(rust::READING).map(|(number, check)| {
+        assert_eq!(check.number(), number, "{check:?}");
+        check.to_string()
+    });
+    let in_rust: Words = reasons.into_iter().zip(told).collect();
+    assert_eq!(words::written(&sources, "put_wrong"), in_rust);
+    assert_eq!(words::defined_for_reasons(&rattle::definitions()), in_rust);
+}
+
+#[test]
+fn layers_have_one_wording() {
+    let sources = rattle::sources();
+    let (_, mut places) = rattle::numbers_and_places(&sources);
+    // Nowhere is no layer, and the last layer is what is none of the others.
+    places.remove(0);
+    assert_eq!(places.len(), rust::LAYERS.len());
+    places.last_mut().expect("the last layer").0 = words::ELSE.to_string();
+    let told = places.into_iter().zip(rust::LAYERS);
+    let in_rust: Words = told
+        .map(|((name, place), layer)| {
+            assert_eq!(layer as u32, place, "{layer:?}");
+            (name, layer.to_string())
+        })
+        .collect();
+    assert_eq!(words::written(&sources, "put_layer"), in_rust);
+    assert_eq!(words::defined_for_layers(&rattle::definitions()), in_rust);
 }
 
 #[test]

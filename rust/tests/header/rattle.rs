@@ -13,6 +13,9 @@ const NOT_EXPORTED: [&str; 2] = ["page_collector/lib.rt", "universe_pages/lib.rt
 /// The first of the places; the constants before it are the numbers of refusals.
 const FIRST_PLACE: &str = "NOWHERE";
 
+/// What a check begins with that has a reason, and one that its number names.
+const CHECKS: [&str; 2] = ["check (", "numbered ("];
+
 /// The sources, by their paths below `crates`.
 pub type Sources = BTreeMap<String, String>;
 
@@ -47,13 +50,14 @@ fn files(folder: &str) -> Sources {
     sources
 }
 
-/// The numbers that the checks of definitions tell, `check (test) (refusal number place value)`, and
-/// whether their value is any but 0.
+/// The numbers that the checks of definitions tell, and whether their value is any but 0. A check is
+/// `check (test) (refusal number place value) reason byte` or, where its number names it, as in writing,
+/// `numbered (test) (refusal number place value)`.
 pub fn with_value(definitions: &Sources) -> BTreeMap<u32, bool> {
     let mut told = BTreeMap::new();
     let checks = definitions
         .values()
-        .flat_map(|text| text.split("check (").skip(1));
+        .flat_map(|text| CHECKS.into_iter().flat_map(|word| text.split(word).skip(1)));
     for check in checks {
         // A refusal that a theorem names stands behind no test.
         let Some((_, refusal)) = check.split_once(") (refusal ") else {

@@ -3,10 +3,41 @@
 use crate::interface::{Interface, TYPE_PREFIX};
 use crate::syntax::{between, c_type, constants, in_c, repr_c_structs, typed_names};
 use crate::syntax::{without_comments, Constants};
+use ledgerwren::{Check, Layer};
 use std::collections::BTreeMap;
 
 const BOUNDARY: &str = include_str!("../../src/ffi.rs");
 const REFUSAL: &str = include_str!("../../src/refusal.rs");
+
+/// The checks of reading, from number 1 on.
+pub const READING: [Check; 16] = [
+    Check::PartTooShort,
+    Check::InvalidData,
+    Check::InvalidFlags,
+    Check::InvalidVector,
+    Check::InvalidLength,
+    Check::NameNotTerminated,
+    Check::NameNotUtf8,
+    Check::InvalidPriority,
+    Check::InvalidSyncAddress,
+    Check::InvalidUniverse,
+    Check::InvalidPage,
+    Check::InvalidUniverseOrder,
+    Check::MissingField,
+    Check::LengthBeyondPart,
+    Check::CountDiffersFromLength,
+    Check::LengthDiffersFromPart,
+];
+
+/// The layers, from place 1 on.
+pub const LAYERS: [Layer; 6] = [
+    Layer::Preamble,
+    Layer::Root,
+    Layer::Framing,
+    Layer::Dmp,
+    Layer::Discovery,
+    Layer::UniverseList,
+];
 
 pub fn boundary() -> &'static str {
     BOUNDARY

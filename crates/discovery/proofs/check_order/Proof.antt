@@ -19,7 +19,7 @@ abbrev μ-loop : tie.MeasureT-loop
 
 returns : tie.Need-returns Inv-loop μ-loop
 returns c = let us = now (c .before .before .args .universes) in
-    sym (rw (pairs-none rises us (c .if1 .taken)) none-checked)
+    sym (rw (pairs-none rises us (c .if1 .taken)) (none-checked (Unit {0})))
 
 all-rise-requires : tie.Need-all-rise-requires Inv-loop μ-loop
 all-rise-requires c κs = omega arith

@@ -32,7 +32,7 @@ returns-2 c = let a = c .before .before .before .args in
     let us = universes (a .count) p in
     let h : 2 * a .count ≤ length p = omega arith in
     let none : length us ≡ 0 = omega (arith, universes-length (a .count) p) in
-    sym (listed p (a .count) h ∙ rw (pairs-none ascends us none) none-checked)
+    sym (listed p (a .count) h ∙ rw (pairs-none ascends us none) (none-checked (Unit {0})))
 
 universe-at-requires : tie.Need-universe-at-requires Inv-loop μ-loop
 universe-at-requires c κs = omega arith

@@ -4,7 +4,7 @@ use native.Mathlib.Omega.{arith}
 use borrow.Author.Needs.{needs}
 use denote.Ref.{now}
 use lib.ListN.{length}
-use Rattle.refusal.specs.Check.{Check, checkedOf}
+use Rattle.refusal.specs.Check.{Numbered, checkedOf}
 use Rattle.refusal.specs.declared.Checked.the-variants as checked
 use Rattle.refusal.proofs.Laws.{stop, pass}
 use Rattle.pack.specs.Writing.{countCheck}
@@ -16,7 +16,7 @@ use Rattle.pack.proofs.check_data.Tie as tie
 abbrev start : tie.After-check-source-name → tie.Start
 start c = c .before .before .before .before
 
-abbrev counted : tie.After-check-source-name → List Check
+abbrev counted : tie.After-check-source-name → List Numbered
 counted c = countCheck 513 (length (now (start c .args .values))) ∷ []
 
 add-if1 : tie.Need-add-if1

@@ -5,7 +5,7 @@ use native.Mathlib.Omega.{arith}
 use borrow.Author.Needs.{needs}
 use denote.Ref.{now}
 use lib.ListN.{length}
-use Rattle.refusal.specs.Check.{Check, checkedOf}
+use Rattle.refusal.specs.Check.{Numbered, checkedOf}
 use Rattle.refusal.specs.declared.Checked.the-variants as checked
 use Rattle.refusal.proofs.Laws.{stop, all-hold, reading-++}
 use Rattle.discovery.specs.Universes.{orderChecks}
@@ -25,7 +25,7 @@ within-count us h =
 abbrev start : tie.After-check-source-name → tie.Start
 start c = c .before .before .before .before
 
-abbrev ordered : tie.After-check-source-name → List Check
+abbrev ordered : tie.After-check-source-name → List Numbered
 ordered c = let us = now (start c .args .universes) in countCheck 512 (length us) ∷ orderChecks us
 
 mul-if1 : tie.Need-mul-if1
