@@ -21,7 +21,7 @@ pub struct DataPacket2009<'a> {
     pub stream_terminated: bool,
     /// The universe, in 1..=63999.
     pub universe: u16,
-    /// The start code and the values, at most 513 bytes.
+    /// The start code and the values behind it, 1 to 513 bytes.
     pub property_values: &'a [u8],
 }
 

@@ -40,13 +40,19 @@ pub struct UniverseDiscovery<'a> {
 /// packet.source_name = &name;
 /// let refusal = pack_data(&mut buf, [7; 16], &packet).unwrap_err();
 /// assert_eq!(refusal.check(), Check::NameTooLong);
+///
+/// // The start code is the first of the values.
+/// packet.source_name = "Front of house, desk 1";
+/// packet.property_values = &[];
+/// let refusal = pack_data(&mut buf, [7; 16], &packet).unwrap_err();
+/// assert_eq!(refusal.check(), Check::NoValues);
 /// ```
 ///
 /// # Errors
 ///
 /// In this order: the buffer is shorter than the packet; the name has more than 63 bytes, or a zero;
-/// there are more than 513 values. `buf` is then left as found. Priority and addresses are not
-/// checked, as in the crate sacn.
+/// there are no values, which the crate sacn would write; there are more than 513. `buf` is then left
+/// as found. Priority and addresses are not checked, as in the crate sacn.
 #[inline]
 pub fn pack_data(buf: &mut [u8], cid: Cid, packet: &DataPacket<'_>) -> Result<usize, Refusal> {
     let fields = ffi::DataFields {

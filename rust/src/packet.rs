@@ -44,7 +44,7 @@ pub struct DataPacket<'a> {
     pub force_synchronization: bool,
     /// The universe, in 1..=63999 when read.
     pub universe: u16,
-    /// The start code and the values, at most 513 bytes.
+    /// The start code and the values behind it, 1 to 513 bytes.
     pub property_values: &'a [u8],
 }
 
@@ -106,7 +106,7 @@ pub struct UniverseDiscoveryPacket<'a> {
 /// # let packet = ledgerwren::DataPacket {
 /// #     source_name: "Source_A", priority: 100, synchronization_address: 0, sequence_number: 0,
 /// #     preview_data: false, stream_terminated: false, force_synchronization: false,
-/// #     universe: 1, property_values: &[],
+/// #     universe: 1, property_values: &[0],
 /// # };
 /// # let length = ledgerwren::pack_data(&mut buf, [7; 16], &packet)?;
 /// const PRIORITY: usize = 108;

@@ -144,6 +144,8 @@ pub enum Check {
     CountDiffersFromLength = 15,
     /// The discovery layer's length is not the number of bytes that there are for it. Its value: the length.
     LengthDiffersFromPart = 16,
+    /// The count of values is 0, so there is no start code.
+    NoStartCode = 17,
     /// At writing: the buffer is shorter than the packet.
     BufferTooSmall = 20,
     /// At writing: the name has more than 63 bytes.
@@ -159,6 +161,8 @@ pub enum Check {
     EqualUniverses = 25,
     /// At writing: a universe is below the one before it.
     FallingUniverses = 26,
+    /// At writing: there are no values, not even a start code.
+    NoValues = 27,
     /// The universe has no multicast address. Its value: the universe.
     NoMulticastAddress = 30,
     /// The datagram is no readable discovery packet, or lists more universes than there is room for.
@@ -194,7 +198,7 @@ const fn tells(check: Check, value: Value, words: &'static str) -> Row {
 /// All checks, a line each. The test `header` holds to the definitions which of them have a value, and
 /// the words of those that reading makes.
 #[rustfmt::skip]
-static CHECKS: [Row; 25] = [
+static CHECKS: [Row; 27] = [
     tells(Check::PartTooShort, Value::Nothing, "there are too few bytes left for its start"),
     tells(Check::InvalidData, Value::Nothing, "a field has a value that is not allowed"),
     tells(Check::InvalidFlags, Value::Number, "the flags are not 0x70"),
@@ -211,6 +215,7 @@ static CHECKS: [Row; 25] = [
     tells(Check::LengthBeyondPart, Value::Number, "the length is beyond the bytes that are left for the layer"),
     tells(Check::CountDiffersFromLength, Value::Number, "the count is not the one that the length says"),
     tells(Check::LengthDiffersFromPart, Value::Number, "the length is not the number of bytes that are left for the layer"),
+    tells(Check::NoStartCode, Value::Nothing, "the count is 0, so there is no start code"),
     tells(Check::BufferTooSmall, Value::Nothing, "the buffer is shorter than the packet"),
     tells(Check::NameTooLong, Value::Nothing, "the name has more than 63 bytes"),
     tells(Check::NameHasZero, Value::Nothing, "the name has a zero in it"),
@@ -218,6 +223,7 @@ static CHECKS: [Row; 25] = [
     tells(Check::TooMany, Value::Nothing, "there are more than 513 values or 512 universes"),
     tells(Check::EqualUniverses, Value::Nothing, "two neighbouring universes are equal"),
     tells(Check::FallingUniverses, Value::Nothing, "a universe is below the one before it"),
+    tells(Check::NoValues, Value::Nothing, "there are no values, not even a start code"),
     tells(Check::NoMulticastAddress, Value::Number, "the universe has no multicast address"),
     tells(Check::NoUniversesCopied, Value::Nothing, "there is no readable list of universes, or no room for it"),
 ];
@@ -365,18 +371,27 @@ mod tests {
 
     #[test]
     fn what_is_not_there_is_not_told() {
-        assert_eq!(
-            refusal(6, 3, 0).to_string(),
-            "the name has no zero behind it (6) in the framing layer"
-        );
-        assert_eq!(
-            refusal(21, 0, 0).to_string(),
-            "the name has more than 63 bytes (21)"
-        );
-        assert_eq!(
-            refusal(30, 0, 64000).to_string(),
-            "the universe has no multicast address (30): 64000"
-        );
+        for (refusal, words) in [
+            (
+                refusal(6, 3, 0),
+                "the name has no zero behind it (6) in the framing layer",
+            ),
+            (
+                refusal(17, 4, 0),
+                "the count is 0, so there is no start code (17) in the DMP layer",
+            ),
+            (refusal(21, 0, 0), "the name has more than 63 bytes (21)"),
+            (
+                refusal(27, 0, 0),
+                "there are no values, not even a start code (27)",
+            ),
+            (
+                refusal(30, 0, 64000),
+                "the universe has no multicast address (30): 64000",
+            ),
+        ] {
+            assert_eq!(refusal.to_string(), words);
+        }
     }
 
     #[test]

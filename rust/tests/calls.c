@@ -219,6 +219,26 @@ static void false_lengths(void)
              LEDGERWREN_PLACE_DISCOVERY, 8 + 2 * COUNT(UNIVERSES) - 1));
 }
 
+/* No start code: a packet without values is not written, and not read. */
+static void no_values(void)
+{
+    uint8_t buf[126];
+    memset(buf, FILL, sizeof buf);
+    LedgerwrenOutcome written =
+        ledgerwren1_pack_data(buf, sizeof buf, data_header(0), NAME, sizeof NAME, VALUES, 0);
+    CHECK(is(written.refusal, LEDGERWREN_REFUSAL_NO_VALUES, LEDGERWREN_PLACE_NOWHERE, 0));
+    CHECK(written.count == 0 && filled(buf, sizeof buf, FILL));
+
+    written = ledgerwren1_pack_data(buf, sizeof buf, data_header(0), NAME, sizeof NAME, VALUES, 1);
+    CHECK(none(written.refusal) && written.count == sizeof buf);
+    static const size_t lengths_and_count[] = {17, 39, 116, 124};
+    for (size_t i = 0; i < COUNT(lengths_and_count); i++)
+        buf[lengths_and_count[i]] -= 1;
+    CHECK(is(ledgerwren1_parse(buf, 125).refusal, LEDGERWREN_REFUSAL_NO_START_CODE, LEDGERWREN_PLACE_DMP, 0));
+    CHECK(is(ledgerwren1_parse_2009(buf, 125).refusal, LEDGERWREN_REFUSAL_NO_START_CODE,
+             LEDGERWREN_PLACE_DMP, 0));
+}
+
 /* A name that is no UTF-8, which only C can offer, and how many of its bytes are good. */
 static void malformed(const uint8_t *name, size_t len, uint32_t good)
 {
@@ -283,6 +303,7 @@ int main(void)
     discovery();
     refusals();
     false_lengths();
+    no_values();
     malformed_names();
     universes();
     return failures != 0;

@@ -204,6 +204,28 @@ fn a_false_length_and_a_false_count_are_told_apart() {
     }
 }
 
+/// A data packet whose value is taken away, and with it the count and each layer's length made less.
+#[test]
+fn without_a_start_code_nothing_is_read() {
+    let whole = datagram(&DataPacket {
+        property_values: &[0],
+        ..data("Desk é")
+    });
+    assert!(parse(&whole).is_ok() && parse_2009(&whole).is_ok());
+    let mut empty = whole[..125].to_vec();
+    for at in [17, 39, 116, 124] {
+        empty[at] -= 1;
+    }
+    // A count of 0 beside a length that says otherwise is a false count.
+    let mut miscounted = whole;
+    miscounted[124] = 0;
+    for (datagram, number) in [(empty, 17), (miscounted, 15)] {
+        assert_eq!(refused(&datagram), (number, 4, 0));
+        let old = parse_2009(&datagram).expect_err("a refusal");
+        assert_eq!((old.number(), old.place(), old.value()), (number, 4, 0));
+    }
+}
+
 /// Reads a data packet with these bytes as its name, and says what came of it: the name, or the number
 /// and the value of the refusal.
 fn named<'a>(datagram: &'a mut [u8], name: &[u8]) -> Result<&'a str, (u8, u32)> {

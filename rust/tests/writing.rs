@@ -111,6 +111,27 @@ fn there_are_at_most_513_values_and_512_universes() {
     );
 }
 
+/// A short buffer and a name's faults are told before it.
+#[test]
+fn there_is_a_start_code() {
+    assert_eq!(written(|buf| pack_data(buf, CID, &data("n", &[0]))), 126);
+    let over = "n".repeat(64);
+    for (room, name, number) in [
+        (ROOM, "n", 27),
+        (125, "n", 27),
+        (124, "n", 20),
+        (124, &over, 20),
+        (ROOM, &over, 21),
+        (ROOM, "a\0b", 22),
+    ] {
+        assert_eq!(
+            refused(room, |buf| pack_data(buf, CID, &data(name, &[]))),
+            number,
+            "{name:?} into {room} bytes"
+        );
+    }
+}
+
 #[test]
 fn universes_ascend() {
     for (universes, number) in [([5, 5], 25), ([5, 3], 26)] {

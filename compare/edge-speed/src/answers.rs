@@ -1,6 +1,7 @@
 //! The same questions to both: all systematic inputs, and random ones.
 
 use crate::ours;
+use judge::exception::{NOTHING_READ, NOTHING_WRITTEN};
 use judge::inputs::{self, Draw};
 use judge::oracle::Answer;
 use judge::random::Random;
@@ -18,6 +19,9 @@ pub struct Answers {
     pub differences: u64,
     /// Names that are no UTF-8 and cannot be put in Rust.
     pub left_out: u64,
+    /// Packets without a start code that the crate reads, and that it writes: ours has to refuse both.
+    pub read_by_crate: u64,
+    pub written_by_crate: u64,
 }
 
 impl Answers {
@@ -27,7 +31,13 @@ impl Answers {
             self.left_out += 1;
             return;
         };
-        let (ours, theirs) = (answer.line(), request.ask_crate().line());
+        let expected = request.ask_crate();
+        match expected {
+            Answer::ReadRefused(NOTHING_READ) => self.read_by_crate += 1,
+            Answer::PackRefused(NOTHING_WRITTEN) => self.written_by_crate += 1,
+            _ => {}
+        }
+        let (ours, theirs) = (answer.line(), expected.line());
         self.compared += 1;
         if ours != theirs {
             self.differences += 1;

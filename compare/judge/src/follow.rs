@@ -1,5 +1,5 @@
 //! Request 02's rules for sequence numbers in plain Rust, and the lines of the program that follows a
-//! capture. Datagrams are read by the crate.
+//! capture. Datagrams are read by the crate, and those without a start code refused (`exception`).
 //!
 //! Refusal 40 is left out: no capture is long enough for a total to reach its largest number.
 

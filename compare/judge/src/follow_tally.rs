@@ -2,6 +2,7 @@
 
 use crate::beside::Agreement;
 use crate::capture::Last;
+use crate::exception::NOTHING_READ;
 use crate::follow::{Answer, Became, Heard, Sent};
 use std::collections::BTreeMap;
 
@@ -19,6 +20,7 @@ enum Met {
     RoomAgainAfterNoRoom,
     Other,
     Unreadable,
+    NoStartCode,
     Ended(&'static str),
     Crate(Agreement),
 }
@@ -26,7 +28,7 @@ enum Met {
 use Met::*;
 
 /// Each of these has to be met.
-const EXPECTED: [(Met, &str); 20] = [
+const EXPECTED: [(Met, &str); 21] = [
     (First, "first packet of a source"),
     (Known, "later packet, accepted"),
     (Discarded, "later packet, discarded"),
@@ -39,6 +41,7 @@ const EXPECTED: [(Met, &str); 20] = [
     (RoomAgainAfterNoRoom, "freed room used again, after 41"),
     (Other, "other"),
     (Unreadable, "unreadable"),
+    (NoStartCode, "unreadable, but the crate reads it"),
     (Ended("end"), "captures to their end"),
     (Ended("cut"), "captures cut"),
     (Ended("bad"), "captures with a bad length"),
@@ -72,6 +75,7 @@ impl FollowTally {
         match heard {
             Heard::Data(sent) => self.count_data(sent, became),
             Heard::Other => self.add(Other),
+            Heard::Unreadable(refusal) if *refusal == NOTHING_READ => self.add(NoStartCode),
             Heard::Unreadable(_) => self.add(Unreadable),
         }
     }

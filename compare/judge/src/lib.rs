@@ -3,6 +3,7 @@
 pub mod beside;
 pub mod capture;
 pub mod dump;
+pub mod exception;
 pub mod follow;
 pub mod follow_tally;
 pub mod inputs;

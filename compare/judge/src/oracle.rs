@@ -1,5 +1,6 @@
-//! Asks the crate.
+//! Asks the crate, and says by its answer what ours has to be: the same, but for request 07's exception.
 
+use crate::exception;
 use crate::record::{Data, Discovery, Record, Sync};
 use crate::refusal::{self, Refusal};
 use crate::wire::hex;
@@ -52,10 +53,13 @@ pub fn keep_panics_of_crate() {
     }));
 }
 
-/// Reads a datagram by the crate.
+/// Reads a datagram by the crate. A packet without a start code is refused, though the crate reads it.
 pub fn parse(datagram: &[u8]) -> Result<AcnRootLayerProtocol<'_>, Refusal> {
     match panic::catch_unwind(|| AcnRootLayerProtocol::parse(datagram)) {
-        Ok(Ok(packet)) => Ok(packet),
+        Ok(Ok(packet)) => match exception::of_reading(datagram, &packet) {
+            Some(refusal) => Err(refusal),
+            None => Ok(packet),
+        },
         Ok(Err(error)) => Err(refusal::of_reading(&error, datagram)),
         Err(_) => Err(refusal::of_panic(PANIC_LINE.get())),
     }
@@ -111,7 +115,7 @@ fn record_of(packet: AcnRootLayerProtocol) -> Record {
 }
 
 /// Writes a record by the crate, or, where its name lies outside the crate's domain, answers what
-/// document 01 says.
+/// document 01 says. A packet without a start code is refused, though the crate writes it.
 pub fn pack(record: &Record, room: usize) -> Answer {
     if let Some((number, value)) = name_refusal(record) {
         let short = room < record.packet_length();
@@ -125,9 +129,12 @@ pub fn pack(record: &Record, room: usize) -> Answer {
     let packet = packet_of(record);
     let mut buffer = vec![FILL; room];
     match panic::catch_unwind(panic::AssertUnwindSafe(|| packet.pack(&mut buffer))) {
-        Ok(Ok(())) => Answer::Packed {
-            length: packet.len(),
-            buffer,
+        Ok(Ok(())) => match exception::of_writing(record, &buffer) {
+            Some(refusal) => Answer::PackRefused(refusal),
+            None => Answer::Packed {
+                length: packet.len(),
+                buffer,
+            },
         },
         Ok(Err(error)) => Answer::PackRefused(refusal::of_writing(&error)),
         Err(_) => Answer::PackRefused(refusal::of_panic(PANIC_LINE.get())),

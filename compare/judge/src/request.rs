@@ -22,6 +22,7 @@ impl Request {
         }
     }
 
+    /// What ours has to answer, by the crate.
     pub fn ask_crate(&self) -> Answer {
         match self {
             Request::Read(datagram) => oracle::read(datagram),

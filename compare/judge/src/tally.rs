@@ -1,6 +1,7 @@
 //! How often each record and each refusal was met, by which of the crate's tests lengths and counts were
 //! refused, and with which numbers of good bytes.
 
+use crate::exception::{NOTHING_READ, NOTHING_WRITTEN};
 use crate::oracle::{self, Answer};
 use crate::refusal::NAMED;
 use crate::request::Request;
@@ -20,7 +21,7 @@ pub enum Met {
 use Met::*;
 
 /// All that can occur. What is met and not listed here is a fault, too.
-const EXPECTED: [Met; 46] = [
+const EXPECTED: [Met; 48] = [
     Read("data"),
     Read("sync"),
     Read("disc"),
@@ -49,6 +50,7 @@ const EXPECTED: [Met; 46] = [
     ReadRefused(13, 4),
     ReadRefused(14, 4),
     ReadRefused(15, 4),
+    ReadRefused(17, 4),
     ReadRefused(3, 5),
     ReadRefused(4, 5),
     ReadRefused(5, 5),
@@ -65,6 +67,7 @@ const EXPECTED: [Met; 46] = [
     PackRefused(24),
     PackRefused(25),
     PackRefused(26),
+    PackRefused(27),
     Address,
     NoAddress(30),
 ];
@@ -96,6 +99,15 @@ const UNREACHABLE: [(&str, &str); 6] = [
 
 /// The numbers besides 1 that are the crate's one kind of error. Several of its tests share one, and a place.
 const LENGTHS: [u8; 3] = [14, 15, 16];
+
+/// The refusals that stand where the crate took the packet, and what it did.
+const TAKEN: [(Met, &str); 2] = [
+    (
+        ReadRefused(NOTHING_READ.number, NOTHING_READ.place),
+        "the crate reads it",
+    ),
+    (PackRefused(NOTHING_WRITTEN.number), "the crate writes it"),
+];
 
 /// The refusals whose value is how many bytes of a name are good.
 const MALFORMED: [Met; 2] = [ReadRefused(7, 3), PackRefused(23)];
@@ -170,7 +182,10 @@ impl Tally {
     /// Prints the table; says whether all that can occur was met, and nothing else.
     pub fn print(&self) -> bool {
         for met in EXPECTED {
-            println!("{:<28}{:>10}", name(met), self.met.get(&met).unwrap_or(&0));
+            let taken = TAKEN.iter().find(|(refused, _)| *refused == met);
+            let words = taken.map_or(String::new(), |(_, words)| format!("  {words}"));
+            let count = self.met.get(&met).unwrap_or(&0);
+            println!("{:<28}{count:>10}{words}", name(met));
         }
         let lengths = self.print_lengths();
         let good_bytes = self.print_good_bytes();

@@ -1,6 +1,6 @@
 -- Demand 3 for data packets: a packet that is written is read as its record; ignored places do not matter; and nothing else is read as that
 -- record. Assumes nothing.
-use Prim.Native.Nat.{ℕ, _+_, _-_, _/_, _≤_, _<_}
+use Prim.Native.Nat.{ℕ, _+_, _/_, _≤_, _<_}
 use mathlib.Core.Path.{_≡_, refl, sym, ap, _∙_}
 use mathlib.Core.List.{List, [], _∷_, _++_, append-assoc, append-nil}
 use native.Mathlib.Omega.{arith}
@@ -22,7 +22,7 @@ use Rattle.parts.specs.Parts.{shownAt}
 use Rattle.packet.specs.declared.Packet.{Packet}
 use Rattle.packet.specs.declared.Packet.the-variants.{Data}
 use Rattle.packet.specs.declared.Reading.{Reading}
-use Rattle.pack.specs.Writing.{rootHead, countCheck, dataWriteChecks, dataLength, dataBytes, packedOf, afterPack}
+use Rattle.pack.specs.Writing.{rootHead, valuesCheck, countCheck, dataWriteChecks, dataLength, dataBytes, packedOf, afterPack}
 use Rattle.pack.specs.declared.Packed.the-variants.{Length, Refused}
 use Rattle.pack.proofs.Writing.{data-long}
 use Rattle.demands.specs.Content.{dataContent, contentOf, meaning}
@@ -100,7 +100,8 @@ module _ (cid : List ℕ) (f : DataFields) (name values : List ℕ) (h : Readabl
         let m : 22 + length frame ≡ 109 + length values = omega arith in
         let small : 109 + length values < 0x1000 = omega arith in
         let read =
-        frame-read f o field values (named .size) few (h .address) (h .universe-most) name (h .named) named says (h .priority) (h .universe-least) in
+        frame-read f o field values (named .size) few (h .address) (h .universe-most) name (h .named) named says (h .priority) (h .universe-least)
+        (h .some) in
         reading-by d cid f (length name) (length values)
         (root-data (109 + length values) cid frame rest (h .cid-16) m small ∙ read)
         (root-cid (109 + length values) 4 cid frame rest (h .cid-16) m small (omega arith))
@@ -166,7 +167,7 @@ pub return-data : (cid : List ℕ) (f : DataFields) (name values buf : List ℕ)
 unfolding packedOf
 return-data cid f name values buf h room =
     let written : All (dataWriteChecks (length buf) name values) =
-    (room, all-++ (writtenNameChecks name) (countCheck 513 (length values) ∷ []) (h .named) (h .few, tt)) in (
+    (room, all-++ (writtenNameChecks name) (valuesCheck (length values) ∷ countCheck 513 (length values) ∷ []) (h .named) (h .some, (h .few, tt))) in (
       all-hold Refused (dataWriteChecks (length buf) name values) (Length (dataLength values)) written,
       packet-meaning cid f name values h (drop (dataLength values) buf),
     )

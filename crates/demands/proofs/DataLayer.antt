@@ -114,8 +114,8 @@ module _ (f : DataFields) (o : ℕ) where
 
 -- The checks of both layers, from facts about their parts: the lists are variables, so that nothing computes.
 dmp-by : (p : List ℕ) → flagsOf p ≡ 0x70 → lengthOf p ≡ length p → vectorOf One p ≡ 2 → byteAt p 3 ≡ 0xa1 → u16At p 4 ≡ 0 → u16At p 6 ≡ 1 →
-    countOf p + 10 ≡ length p → countOf p ≤ 513 → All (dmpChecks p)
-dmp-by p flags fills vector type first increment count few = omega arith
+    countOf p + 10 ≡ length p → 1 ≤ countOf p → countOf p ≤ 513 → All (dmpChecks p)
+dmp-by p flags fills vector type first increment count some few = omega arith
 
 frame-by : (p : List ℕ) → flagsOf p ≡ 0x70 → lengthOf p ≡ length p → vectorOf Four p ≡ 2 → 77 ≤ length p → byteAt p 70 ≤ 200 →
     u16At p 71 ≤ 63999 → 1 ≤ u16At p 75 → u16At p 75 ≤ 63999 → All (sourceNameChecks (nameField p)) → All (dmpChecks (dmpPart p (lengthOf p))) →
@@ -159,13 +159,13 @@ module _ (values : List ℕ) (few : length values ≤ 513) where
   unfolding dmpBytes
   dmp-flags = omega arith
 
-  dmp-holds : All (dmpChecks (dmpBytes values))
+  dmp-holds : 1 ≤ length values → All (dmpChecks (dmpBytes values))
   unfolding u16At dmpBytes
-  dmp-holds =
+  dmp-holds some =
       let c = dmp-count in
       let n = dmp-length in
       let m = dmp-long in
-      dmp-by (dmpBytes values) dmp-flags (n ∙ sym m) refl refl refl refl (omega arith) (omega arith)
+      dmp-by (dmpBytes values) dmp-flags (n ∙ sym m) refl refl refl refl (omega arith) (omega arith) (omega arith)
 
 module _ (f : DataFields) (o : ℕ) (field values : List ℕ) (n : length field ≡ 64) (few : length values ≤ 513) where
   abbrev frame : List ℕ
@@ -216,7 +216,7 @@ module _ (f : DataFields) (o : ℕ) (field values : List ℕ) (n : length field 
     frame-fields says = rw (at-tail 0, frame-address, at-tail 3, at-tail 4, frame-universe, says .preview, says .terminated, says .force)
 
     module _ (name : List ℕ) (readable : ReadableName name) (named : Named field name) (says : Says f o)
-        (priority : f .priority ≤ 200) (least : 1 ≤ f .universe) where
+        (priority : f .priority ≤ 200) (least : 1 ≤ f .universe) (some : 1 ≤ length values) where
       frame-holds : All (dataChecks E2018 frame)
       frame-holds =
           let long = frame-long in
@@ -224,7 +224,7 @@ module _ (f : DataFields) (o : ℕ) (field values : List ℕ) (n : length field 
           let b = frame-address in
           let c = frame-universe in
           frame-by frame frame-flags (frame-length ∙ sym long) frame-vector (omega arith) (omega arith) (omega arith) (omega arith) (omega arith)
-          (rw frame-name (named-checks field name readable named)) (rw frame-dmp (dmp-holds values few))
+          (rw frame-name (named-checks field name readable named)) (rw frame-dmp (dmp-holds values few some))
 
       -- the record: f, and the spans of name and values
       pub frame-read : dataPacketOf frame ≡ Data (record { fields = f; name = span 44 (length name); values = span 125 (length values) })

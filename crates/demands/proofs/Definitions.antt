@@ -1,6 +1,7 @@
 -- Demand 2: what reading, writing, range and address are equal to. Reading is the flat list of checks in document 01's order, and then the record.
 -- Writing is the list of write checks, and then the bytes of its layout in front of what stood behind; a refusal leaves the buffer as found. The
--- range is 1..63999 and 64214, and the address 239.255.high.low, port 5568. Last, four numbers that the crate has no kind for. Assumes nothing.
+-- range is 1..63999 and 64214, and the address 239.255.high.low, port 5568. Last, four numbers that the crate has no kind for, and two whose kind is
+-- that the crate takes the packet. Assumes nothing.
 use Prim.Native.Nat.{ℕ, _/_, _%_, _≤_}
 use mathlib.Core.Path.{_≡_, refl, ap}
 use mathlib.Core.List.{List, [], _∷_, map}
@@ -26,7 +27,7 @@ use Rattle.pack.specs.declared.Packed.the-variants as packed
 use Rattle.edition2009.specs.Packet.{packetChecks2009, dataRecord2009, packet2009Of, withCid2009, reading2009Of}
 use Rattle.edition2009.specs.declared.Packet2009.the-variants as old
 use Rattle.demands.specs.Definitions.{Writes, ByRange}
-use Rattle.demands.specs.Kinds.{kindOf, Ours}
+use Rattle.demands.specs.Kinds.{kindOf, Ours, Taken}
 
 -- The present reader is its list of checks, and then the record, with the CID beside it.
 pub reading-is : (d : List ℕ) → readingOf d ≡ withCid d (reading packet.Refused (packetChecks d) (recordOf d))
@@ -99,3 +100,8 @@ address-is u = ranged multicast.Refused u (multicast.Address (record { highest =
 pub ours : map kindOf (21 ∷ 22 ∷ 23 ∷ 31 ∷ []) ≡ Ours ∷ Ours ∷ Ours ∷ Ours ∷ []
 unfolding kindOf choose
 ours = refl
+
+-- The kind of 17 and 27, which request 07 adds, is that the crate takes the packet.
+pub taken : map kindOf (17 ∷ 27 ∷ []) ≡ Taken ∷ Taken ∷ []
+unfolding kindOf choose
+taken = refl

@@ -31,7 +31,7 @@ use Rattle.packet.proofs.Whole.{read, each-check, refused-with}
 use Rattle.edition2009.specs.Packet.{reading2009Of}
 use Rattle.edition2009.specs.declared.Packet2009.the-variants as old
 use Rattle.edition2009.proofs.Editions.{refused-with as refused-with-2009, each-check-2009}
-use Rattle.pack.specs.Writing.{roomCheck, countCheck, dataLength, discoveryLength, dataWriteChecks, discoveryWriteChecks, packedOf}
+use Rattle.pack.specs.Writing.{roomCheck, valuesCheck, countCheck, dataLength, discoveryLength, dataWriteChecks, discoveryWriteChecks, packedOf}
 use Rattle.pack.specs.declared.Packed.the-variants as packed
 use Rattle.pack.proofs.Table.{refused-with as write-refused-with, each-write}
 use Rattle.demands.specs.Spans.{nameText}
@@ -111,7 +111,7 @@ written len room name rest rests r e =
 pub good-bytes-data : (room : ℕ) (name values : List ℕ) (r : Refusal) →
     packedOf (dataWriteChecks room name values) (dataLength values) ≡ packed.Refused r → r .number ≡ 23 → GoodBytes name (r .value)
 good-bytes-data room name values r e =
-    let rest = countCheck 513 (length values) ∷ [] in
+    let rest = valuesCheck (length values) ∷ countCheck 513 (length values) ∷ [] in
     written (dataLength values) room name rest (others 23 name rest refl) r e
 
 pub good-bytes-discovery : (room : ℕ) (name us : List ℕ) (r : Refusal) →

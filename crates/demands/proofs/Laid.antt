@@ -44,7 +44,7 @@ laid-first : (fs : List Field) (n : ℕ) (packet rest : List ℕ) → packet ≡
 laid-first fs n packet rest e g = rw e (laid fs 0 n [] rest refl g)
 
 -- an accepted write: its checks hold, and its answer is the packet's length
-wrote : (cs : List Numbered) (len n : ℕ) → packedOf cs len ≡ Length n → All cs × (len ≡ n)
+pub wrote : (cs : List Numbered) (len n : ℕ) → packedOf cs len ≡ Length n → All cs × (len ≡ n)
 unfolding packedOf
 wrote cs len n e =
     let f = found Refused cs (Length len) (Length n) (λ r q. let z : _≡_ {A = ℕ} 0 1 = cc in omega arith) e in
@@ -116,7 +116,7 @@ module _ (cid : List ℕ) where
 -- follow one another from byte 0 to the packet's end.
 module _ (cid : List ℕ) (sixteen : length cid ≡ 16) (buf : List ℕ) (n : ℕ) where
   pub data-laid : (f : DataFields) (name values : List ℕ) → packedOf (dataWriteChecks (length buf) name values) (dataLength values) ≡ Length n →
-      (n ≡ 125 + length values) × (n ≤ 638) × Gapless 0 (dataLayout cid f name values) n
+      (n ≡ 125 + length values) × (126 ≤ n) × (n ≤ 638) × Gapless 0 (dataLayout cid f name values) n
       × Laid (dataLayout cid f name values) (afterPack (Length n) (dataBytes cid f name values) buf)
   data-laid f name values e =
       let w = wrote (dataWriteChecks (length buf) name values) (dataLength values) n e in
@@ -125,6 +125,7 @@ module _ (cid : List ℕ) (sixteen : length cid ≡ 16) (buf : List ℕ) (n : �
       let g : Gapless 0 (dataLayout cid f name values) n = rw (← w .1) (data-gapless cid f name values sixteen short) in
       let j = data-joined cid f name values short few in (
         sym (w .1),
+        omega arith,
         omega arith,
         g,
         laid-first (dataLayout cid f name values) n (dataBytes cid f name values) (drop n buf) j g,

@@ -24,6 +24,7 @@ pub mod GoodBytes
 pub mod There
 pub mod Wrong
 pub mod Malformed
+pub mod NoStartCode
 pub mod Laid
 pub mod Unlooked
 pub mod Settled

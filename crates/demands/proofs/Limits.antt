@@ -2,7 +2,7 @@
 use Prim.Native.Nat.{ℕ, zero, suc, _+_, _≤_, _<_}
 use mathlib.Core.Path.{_≡_, refl, ap}
 use mathlib.Core.List.{List, [], _∷_}
-use mathlib.Core.Bool.{true}
+use mathlib.Core.Bool.{true, false}
 use native.Mathlib.Numerals.{add-one}
 use native.Mathlib.Omega.{arith}
 use lib.ListN.{length, getD, replicate}
@@ -54,10 +54,14 @@ pub ascending-plainly : (us : List ℕ) → Iff (All (orderChecks us)) (Rising u
 ascending-plainly [] = (λ h i g. absurd (omega arith), λ r. tt)
 ascending-plainly (u ∷ us) = (rises-from u us, from-rising u us)
 
--- the longest name may be written, and universes from one on rise
+-- the longest name may be written, and the empty one; and universes from one on rise
 long-readable : ReadableName longName
 unfolding zeroAt choose wholeChars reach leadOf trailed
 long-readable = (omega arith, (omega arith, (refl, tt)))
+
+empty-readable : ReadableName []
+unfolding zeroAt choose wholeChars reach leadOf trailed
+empty-readable = (omega arith, (omega arith, (refl, tt)))
 
 up-long : (u n : ℕ) → length (upFrom u n) ≡ n
 unfolding upFrom
@@ -78,7 +82,7 @@ unfolding upFrom
 up-rises t u zero h = tt
 up-rises t u (suc n) h = (λ e. omega arith, (omega arith, up-rises u (u + 1) n (omega arith)))
 
--- Records at the limits, one of each kind: 513 values; 512 universes, the first 0 and the last 65535.
+-- Records at the limits: of data one with 513 values and one with 1; 512 universes, the first 0 and the last 65535.
 pub some-data-readable :
     ReadableData (replicate 16 0xff)
     (record {
@@ -98,6 +102,30 @@ some-data-readable = record {
   address = omega arith;
   universe-least = omega arith;
   universe-most = omega arith;
+  some = omega arith;
+  few = omega arith;
+}
+
+pub least-data-readable :
+    ReadableData (replicate 16 0)
+    (record {
+      priority = 0;
+      «synchronization_address» = 0;
+      «sequence_number» = 0;
+      «preview_data» = false;
+      «stream_terminated» = false;
+      «force_synchronization» = false;
+      universe = 1;
+    })
+    [] (0 ∷ [])
+least-data-readable = record {
+  cid-16 = refl;
+  named = empty-readable;
+  priority = omega arith;
+  address = omega arith;
+  universe-least = omega arith;
+  universe-most = omega arith;
+  some = omega arith;
   few = omega arith;
 }
 

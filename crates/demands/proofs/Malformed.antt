@@ -25,7 +25,7 @@ use Rattle.pack.specs.Writing.{dataBytes, discoveryBytes, dataLength, discovery
 use Rattle.pack.specs.declared.Packed.the-variants as packed
 
 -- packets with each name, which no writer would write
-abbrev cid : List ℕ
+abbrev pub cid : List ℕ
 cid = replicate 16 0x11
 
 abbrev values : List ℕ
@@ -34,7 +34,7 @@ values = 0 ∷ []
 abbrev universes : List ℕ
 universes = 1 ∷ []
 
-abbrev plain : DataFields
+abbrev pub plain : DataFields
 plain = record {
   priority = 100;
   «synchronization_address» = 0;

@@ -181,6 +181,7 @@ module _ (edition : Edition) (d : List ℕ) (rooted : All (preambleChecks d ++ r
           name-in (all-front (sourceNameChecks field) (fieldChecks edition p n) after-start),
           part-in 125 d (dmpLayer.countOf q) ends (i .1),
           counts .1 .1 .0,
+          counts .1 .1 .1 .0,
         )
 
   -- A discovery packet: the name, the universes' span, and the numbers there.

@@ -128,7 +128,12 @@ module _ (d : List ℕ) where
         λ f. length-there 115 p stands (omega (arith, head .0)),
         λ t. (λ f. stands 2 (omega (arith, head .0)), λ t. each-computed tells (drop 2 start) refl),
       )
-      (λ t. (λ f. refl, λ ten. (λ f. u16-there 115 p stands 8 (omega (arith, ten)), λ t. (λ f. refl, λ t. tt)))))
+      (λ t. (
+        λ f. refl,
+        λ ten.
+            let count = u16-there 115 p stands 8 (omega (arith, ten)) in
+            (λ f. count, λ t. (λ f. omega (arith, f, count), λ t. (λ f. refl, λ t. tt))),
+      )))
 
   -- the universes behind u, the first of which is told at byte 120 + i: u stands two bytes before it
   order-there : (n i u : ℕ) (l : List ℕ) → u ≡ u16At d (118 + i) → 2 * n ≤ length l → Stands (120 + i) l →

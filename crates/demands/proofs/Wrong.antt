@@ -113,7 +113,9 @@ module _ (d : List ℕ) where
       )
       (λ s. (
         λ f. omega (arith, f, s .1 .1 .1 .1 .1 .1 .0, room),
-        λ ten. (λ f e. f (e ∙ sym long), λ t. (λ f. omega (arith, f, word 8 (omega (arith, ten))), λ t. tt)),
+        λ ten.
+            let count = word 8 (omega (arith, ten)) in
+            (λ f e. f (e ∙ sym long), λ t. (λ f. omega (arith, f, count), λ t. (λ f. omega (arith, f, count), λ t. tt))),
       )))
 
   -- a universe that is told stands where it is told, two bytes behind one that it is not above

@@ -2,7 +2,8 @@
 use Prim.Native.Nat.{ℕ}
 use Rattle.refusal.specs.Check.{_=?_, choose}
 
--- names of error.rs and sacn_parse_pack_error.rs; `Str` is the library's UTF-8 error, `Panic` a panic, `Ours` what the crate does not know
+-- names of error.rs and sacn_parse_pack_error.rs; `Str` is the library's UTF-8 error, `Panic` a panic; `Taken` where the crate reads or writes, at
+-- count 0; `Ours` what the crate does not know
 pub data Kind : Type 0 where
   ParseInsufficientData : Kind
   ParseInvalidData : Kind
@@ -17,6 +18,7 @@ pub data Kind : Type 0 where
   ParseInvalidPage : Kind
   ParseInvalidUniverseOrder : Kind
   Panic : Kind
+  Taken : Kind
   PackInvalidData : Kind
   IllegalUniverse : Kind
   Ours : Kind
@@ -39,9 +41,11 @@ kindOf n =
     (choose (n =? 14) ParseInsufficientData
     (choose (n =? 15) ParseInsufficientData
     (choose (n =? 16) ParseInsufficientData
+    (choose (n =? 17) Taken
     (choose (n =? 20) ParseInvalidData
     (choose (n =? 24) PackInvalidData
     (choose (n =? 25) PackInvalidData
     (choose (n =? 26) PackInvalidData
+    (choose (n =? 27) Taken
     (choose (n =? 30) IllegalUniverse
-    Ours))))))))))))))))))))
+    Ours))))))))))))))))))))))

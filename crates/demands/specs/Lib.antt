@@ -7,6 +7,7 @@ pub mod Unlooked
 pub mod Examples
 pub mod Definitions
 pub mod Kinds
+pub mod NoStartCode
 pub mod Spans
 pub mod There
 pub mod Wrong

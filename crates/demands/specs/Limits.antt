@@ -31,7 +31,7 @@ Rising us = (i : ℕ) → i + 1 < length us → getD us i 0 < getD us (i + 1) 0
 abbrev pub Iff : Type 0 → Type 0 → Type 0
 Iff A B = (A → B) × (B → A)
 
--- priority at most 200; sync address at most 63999; universe 1..63999; at most 513 values
+-- priority at most 200; sync address at most 63999; universe 1..63999; 1 to 513 values
 pub record ReadableData (cid : List ℕ) (f : DataFields) (name values : List ℕ) : Type 0 where
   pub cid-16 : length cid ≡ 16
   pub named : ReadableName name
@@ -39,6 +39,7 @@ pub record ReadableData (cid : List ℕ) (f : DataFields) (name values : List �
   pub address : f .«synchronization_address» ≤ 63999
   pub universe-least : 1 ≤ f .universe
   pub universe-most : f .universe ≤ 63999
+  pub some : 1 ≤ length values
   pub few : length values ≤ 513
 
 -- address 1..63999

@@ -62,7 +62,7 @@ pub record ListIn (d : List ℕ) (p : Span) : Type 0 where
 
 -- the spans of a data packet, the same in both editions; and of each kind
 abbrev pub DataIn : List ℕ → Span → Span → Type 0
-DataIn d name values = NameIn d name × PartIn 125 d values × (values .len ≤ 513)
+DataIn d name values = NameIn d name × PartIn 125 d values × (1 ≤ values .len) × (values .len ≤ 513)
 
 abbrev pub SpansIn : List ℕ → Packet → Type 0
 SpansIn d (Data x) = DataIn d (x .name) (x .values)

@@ -36,3 +36,4 @@ there (why.Missing f) d byte value = value =? 0
 there (why.Beyond r) d byte value = value =? u16At d byte % 0x1000
 there why.CountDiffers d byte value = value =? u16At d byte
 there why.LengthDiffers d byte value = value =? u16At d byte % 0x1000
+there why.NoStartCode d byte value = value =? u16At d byte

@@ -93,3 +93,4 @@ wrong (why.Missing f) d place byte value = missing f d place
 wrong (why.Beyond r) d place byte value = beyond r d place value
 wrong why.CountDiffers d place byte value = value + 10 ≠? lengthAt d 115
 wrong why.LengthDiffers d place byte value = value ≠? roomAt d place
+wrong why.NoStartCode d place byte value = u16At d 123 =? 0

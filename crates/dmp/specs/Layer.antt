@@ -29,11 +29,12 @@ startChecks p len vec =
     ∷ check (u16At p 6 =? 1) (refusal 2 dmp 0) (why.NotAllowed value-of.Increment) 6
     ∷ []
 
--- 15 if count + 10 differs from length; 2 if count is above 513
+-- 15 if count + 10 differs from length; 17 if count is 0, for the start code comes first; 2 if count is above 513
 abbrev pub countChecks : List ℕ → ℕ → List Check
 countChecks p len =
     reaches 10 dmp p field-of.Count
     ∷ check (countOf p + 10 =? len) (refusal 15 dmp (countOf p)) why.CountDiffers 8
+    ∷ check (1 ≤? countOf p) (refusal 17 dmp 0) why.NoStartCode 8
     ∷ check (countOf p ≤? 513) (refusal 2 dmp 0) (why.NotAllowed value-of.Count) 8
     ∷ []
 

@@ -35,7 +35,7 @@ fn refuse(number: u8, value: u32) -> Dmp
     Dmp::Refused(Refusal::new(number, refusal::DMP, value))
 }
 
-// The count, and whether the layer's length says the same.
+// The count: whether the layer's length says the same, and whether there is a start code.
 fn parse_count(p: &[u8], length: u16) -> Dmp
     ensures { λ r. ⌜ r ≡ countedOf (now (p .entry)) length ⌝ }
 {
@@ -45,6 +45,9 @@ fn parse_count(p: &[u8], length: u16) -> Dmp
     let count = wire::u16_at(p, PROPERTY_VALUE_COUNT_FIELD_INDEX) as usize;
     if count + PROPERTY_VALUES_FIELD_INDEX != length as usize {
         return refuse(refusal::COUNT_DIFFERS_FROM_LENGTH, count as u32);
+    }
+    if count == 0 {
+        return refuse(refusal::NO_START_CODE, 0);
     }
     if UNIVERSE_CHANNEL_CAPACITY < count {
         return refuse(refusal::INVALID_DATA, 0);

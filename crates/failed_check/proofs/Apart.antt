@@ -117,6 +117,7 @@ code (why.Missing x) = 1300 + fieldCode x
 code (why.Beyond x) = 1400 + roomCode x
 code why.CountDiffers = 1500
 code why.LengthDiffers = 1600
+code why.NoStartCode = 1700
 
 abbrev differs : Check → Check → Test
 differs c e = code (c .identity .reason) ≠? code (e .identity .reason) or c .identity .byte ≠? e .identity .byte

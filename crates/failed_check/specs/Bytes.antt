@@ -47,6 +47,7 @@ lies (why.Missing f) place byte = byte =? firstByte place
 lies (why.Beyond r) place byte = byte =? firstByte place
 lies why.CountDiffers place byte = byte =? 123
 lies why.LengthDiffers place byte = byte =? firstByte place
+lies why.NoStartCode place byte = byte =? 123
 
 -- the number that a reason is told with
 abbrev pub numberOf : Reason → ℕ
@@ -66,3 +67,4 @@ numberOf (why.Missing f) = 13
 numberOf (why.Beyond r) = 14
 numberOf why.CountDiffers = 15
 numberOf why.LengthDiffers = 16
+numberOf why.NoStartCode = 17

@@ -87,6 +87,10 @@ pub(crate) fn find(q: &[u8], refusal: Refusal) -> Identity
             Reason::CountDiffers,
             DMP_START + PROPERTY_VALUE_COUNT_FIELD_INDEX,
         ),
+        refusal::NO_START_CODE => at(
+            Reason::NoStartCode,
+            DMP_START + PROPERTY_VALUE_COUNT_FIELD_INDEX,
+        ),
         _ => not_allowed(q, refusal),
     }
 }

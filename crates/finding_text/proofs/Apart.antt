@@ -78,6 +78,7 @@ every-reason =
     ∷ (why.Beyond room-in.Root)
     ∷ why.CountDiffers
     ∷ why.LengthDiffers
+    ∷ why.NoStartCode
     ∷ []
 
 -- a check is found by its words
@@ -127,6 +128,7 @@ found-again (why.Beyond room-in.Part) = refl
 found-again (why.Beyond room-in.Root) = refl
 found-again why.CountDiffers = refl
 found-again why.LengthDiffers = refl
+found-again why.NoStartCode = refl
 
 pub words-apart : (r s : Reason) → words r ≡ words s → r ≡ s
 words-apart r s e = sym (found-again r) ∙ ap (reason-of every-reason) e ∙ found-again s

@@ -95,6 +95,7 @@ found (why.Missing f) = foundField f
 found (why.Beyond r) = source.Value
 found why.CountDiffers = source.Value
 found why.LengthDiffers = source.Value
+found why.NoStartCode = source.Word
 
 -- what was wanted, where the words leave it open
 abbrev pub limitStart : Start → Source
@@ -123,3 +124,4 @@ limit (why.Missing f) = source.Nowhere
 limit (why.Beyond r) = limitRoom r
 limit why.CountDiffers = source.Length
 limit why.LengthDiffers = source.Room
+limit why.NoStartCode = source.Nowhere

@@ -190,6 +190,7 @@ pub(crate) fn found(reason: Reason) -> Source
         Reason::Beyond(_) => Source::Value,
         Reason::CountDiffers => Source::Value,
         Reason::LengthDiffers => Source::Value,
+        Reason::NoStartCode => Source::Word,
     }
 }
 
@@ -233,5 +234,6 @@ pub(crate) fn limit(reason: Reason) -> Source
         Reason::Beyond(room) => limit_room(room),
         Reason::CountDiffers => Source::Length,
         Reason::LengthDiffers => Source::Room,
+        Reason::NoStartCode => Source::Nowhere,
     }
 }

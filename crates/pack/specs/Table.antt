@@ -13,16 +13,17 @@ told number place value =
     or number =? 24 and place =? nowhere and value =? 0
     or number =? 25 and place =? nowhere and value =? 0
     or number =? 26 and place =? nowhere and value =? 0
+    or number =? 27 and place =? nowhere and value =? 0
 
-abbrev pub toldUpTo : ℕ → Refusal → Test
-toldUpTo last r = r .number ≤? last and told (r .number) (r .place) (r .value)
+abbrev pub allowed : Refusal → Test
+allowed r = told (r .number) (r .place) (r .value)
 
--- data: 20 to 24; sync: 20; discovery: 20 to 26
+-- data: 20 to 24, and 27; sync: 20; discovery: 20 to 26
 abbrev pub dataAllowed : Refusal → Test
-dataAllowed r = toldUpTo 24 r
+dataAllowed r = (r .number ≤? 24 or r .number =? 27) and allowed r
 
 abbrev pub synchronizationAllowed : Refusal → Test
-synchronizationAllowed r = toldUpTo 20 r
+synchronizationAllowed r = r .number =? 20 and allowed r
 
 abbrev pub discoveryAllowed : Refusal → Test
-discoveryAllowed r = toldUpTo 26 r
+discoveryAllowed r = r .number ≤? 26 and allowed r

@@ -46,13 +46,18 @@ discoveryLength us = 120 + 2 * length us
 abbrev pub roomCheck : ℕ → ℕ → Numbered
 roomCheck len room = numbered (len ≤? room) (refusal 20 nowhere 0)
 
+-- 27: no values
+abbrev pub valuesCheck : ℕ → Numbered
+valuesCheck count = numbered (1 ≤? count) (refusal 27 nowhere 0)
+
 -- 24: above 513 values or 512 universes
 abbrev pub countCheck : ℕ → ℕ → Numbered
 countCheck most count = numbered (count ≤? most) (refusal 24 nowhere 0)
 
--- the order: 20, 21, 22, 23, 24, then 25 or 26 at the first bad pair
+-- the order: 20, 21, 22, 23, for data 27, then 24, and for universes 25 or 26 at the first bad pair
 abbrev pub dataWriteChecks : ℕ → List ℕ → List ℕ → List Numbered
-dataWriteChecks room name values = roomCheck (dataLength values) room ∷ writtenNameChecks name ++ countCheck 513 (length values) ∷ []
+dataWriteChecks room name values =
+    roomCheck (dataLength values) room ∷ writtenNameChecks name ++ valuesCheck (length values) ∷ countCheck 513 (length values) ∷ []
 
 abbrev pub synchronizationWriteChecks : ℕ → List Numbered
 synchronizationWriteChecks room = roomCheck synchronizationLength room ∷ []

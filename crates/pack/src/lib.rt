@@ -91,6 +91,9 @@ fn check_data(room: usize, name: &[u8], values: &[u8]) -> Checked
     match name::check_source_name(name) {
         Checked::Refused(r) => Checked::Refused(r),
         Checked::Passed => {
+            if values.len() == 0 {
+                return refuse(refusal::NO_VALUES);
+            }
             if UNIVERSE_CHANNEL_CAPACITY < values.len() {
                 return refuse(refusal::TOO_MANY);
             }

@@ -151,7 +151,38 @@ each-data P edition p start named fields =
     let rest = fieldChecks edition p (lengthOf p) in
     every-++ P (head ++ own) (name ++ rest) start (λ a. every-++ P name rest (named (omega (arith, all-back head own a))) (λ b. fields))
 
--- What is so of every check of each layer is so of every check of a datagram. A discovery layer is looked at only where it has at least 8 bytes.
+-- The same of an extended framing layer. A discovery layer is looked at only where it has at least 8 bytes.
+pub each-extended : (P : Refusal → Type 0) (whole : ℕ) (p : List ℕ) →
+    let len = lengthOf p in
+    let q = discoveryPart p len in
+    Every P (headChecks Four framing p ++ kindChecks whole len (vectorOf Four p)) →
+    Every P (synchronizationChecks p len) →
+    Every P (discoveryFraming.startChecks p len) →
+    (70 ≤ length p → Every P (sourceNameChecks (nameField p))) →
+    (8 ≤ length q → Every P (headChecks Four discovery q ++ discoveryLayer.ownChecks q (lengthOf q) (vectorOf Four q))) →
+    P (refusal 1 universeList 0) →
+    ((i : ℕ) → P (refusal 12 universeList (getD (universes (countIn (lengthOf q)) (listPart q)) i 0))) →
+    Every P (extendedChecks whole p)
+each-extended P whole p kind sync framed named own short order =
+    let len = lengthOf p in
+    let vec = vectorOf Four p in
+    let q = discoveryPart p len in
+    let us = universes (countIn (lengthOf q)) (listPart q) in
+    let listed = listChecks (listPart q) (countIn (lengthOf q)) in
+    let layer = headChecks Four discovery q ++ discoveryLayer.ownChecks q (lengthOf q) (vectorOf Four q) in
+    let list : Every P listed =
+    (λ f. short, λ h. every-told P 2 (pairs ascends us) (every-pairs ascends P us (λ u i. (λ f. order i, λ h. tt)))) in
+    let begun = discoveryFraming.startChecks p len in
+    let name = sourceNameChecks (nameField p) in
+    let disc : Every P (discoveryFramingChecks p len) =
+    every-++ P begun (name ++ (layer ++ listed)) framed
+    (λ b.
+    let room : 8 ≤ length q = omega (arith, b, length-take (len - 74) (drop 74 p), length-drop 74 p) in
+    every-++ P name (layer ++ listed) (named (omega (arith, b))) (λ c. every-++ P layer listed (own room) (λ e. list))) in
+    every-++ P (headChecks Four framing p ++ kindChecks whole len vec) (choose (vec =? 1) (synchronizationChecks p len) (discoveryFramingChecks p len)) kind
+    (λ b. choice (Every P) (vec =? 1) (synchronizationChecks p len) (discoveryFramingChecks p len) (λ h. sync) (λ f. disc))
+
+-- What is so of every check of each layer is so of every check of a datagram.
 pub each-check : (P : Refusal → Type 0) (d : List ℕ) →
     let r = rootPart d in
     let p = framingPart d in
@@ -170,30 +201,11 @@ pub each-check : (P : Refusal → Type 0) (d : List ℕ) →
     Every P (packetChecks d)
 each-check P d outer start named fields kind sync framed own short order =
     let p = framingPart d in
-    let n = length (rootPart d) in
-    let len = lengthOf p in
-    let vec = vectorOf Four p in
-    let q = discoveryPart p len in
-    let us = universes (countIn (lengthOf q)) (listPart q) in
-    let listed = listChecks (listPart q) (countIn (lengthOf q)) in
-    let layer = headChecks Four discovery q ++ discoveryLayer.ownChecks q (lengthOf q) (vectorOf Four q) in
-    let list : Every P listed =
-    (λ f. short, λ h. every-told P 2 (pairs ascends us) (every-pairs ascends P us (λ u i. (λ f. order i, λ h. tt)))) in
-    let begun = discoveryFraming.startChecks p len in
-    let name = sourceNameChecks (nameField p) in
-    let body = choose (vec =? 1) (synchronizationChecks p len) (discoveryFramingChecks p len) in
+    let whole = length (rootPart d) in
     every-++ P (preambleChecks d ++ rootChecks E2018 (rootPart d)) (framingChecks d) outer
     (λ a.
-    let disc : Every P (discoveryFramingChecks p len) =
-    every-++ P begun (name ++ (layer ++ listed)) framed
-    (λ b.
-    let room : 8 ≤ length q = omega (arith, b, length-take (len - 74) (drop 74 p), length-drop 74 p) in
-    every-++ P name (layer ++ listed) (named (omega (arith, b))) (λ c. every-++ P layer listed (own room) (λ e. list))) in
-    let extended : Every P (extendedChecks n p) =
-    every-++ P (headChecks Four framing p ++ kindChecks n len vec) body kind
-    (λ b. choice (Every P) (vec =? 1) (synchronizationChecks p len) (discoveryFramingChecks p len) (λ h. sync) (λ f. disc)) in
-    choice (Every P) (rootVector d =? 4) (dataChecks E2018 p) (extendedChecks n p)
-    (λ h. each-data P E2018 p start named fields) (λ f. extended))
+    choice (Every P) (rootVector d =? 4) (dataChecks E2018 p) (extendedChecks whole p)
+    (λ h. each-data P E2018 p start named fields) (λ f. each-extended P whole p kind sync framed named own short order))
 
 -- What is so of every check's refusal, and of the record of each kind, is so of the answer.
 pub each-answer : (P : Packet → Type 0) (d : List ℕ) →

@@ -23,6 +23,7 @@ told number place value =
     or number =? 14 and root ≤? place and place ≤? dmp
     or number =? 15 and place =? dmp
     or number =? 16 and place =? discovery
+    or number =? 17 and place =? dmp and value =? 0
 
 abbrev pub allowed : Refusal → Test
 allowed r = told (r .number) (r .place) (r .value)

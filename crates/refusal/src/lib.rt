@@ -35,6 +35,8 @@ pub const COUNT_DIFFERS_FROM_LENGTH: u8 = 15;
 
 pub const LENGTH_DIFFERS_FROM_PART: u8 = 16;
 
+pub const NO_START_CODE: u8 = 17;
+
 pub const BUFFER_TOO_SMALL: u8 = 20;
 
 pub const NAME_TOO_LONG: u8 = 21;
@@ -48,6 +50,8 @@ pub const TOO_MANY: u8 = 24;
 pub const EQUAL_UNIVERSES: u8 = 25;
 
 pub const FALLING_UNIVERSES: u8 = 26;
+
+pub const NO_VALUES: u8 = 27;
 
 pub const NO_MULTICAST_ADDRESS: u8 = 30;
 
@@ -94,6 +98,7 @@ pub enum Reason {
     Beyond(Room),
     CountDiffers,
     LengthDiffers,
+    NoStartCode,
 }
 
 // What there are too few bytes for.

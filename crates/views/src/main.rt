@@ -78,7 +78,7 @@ fn data_cases() {
 }
 
 fn bare_case() {
-    let mut buf = [0xee; 125];
+    let mut buf = [0xee; 126];
     let fields = DataFields {
         priority: 0,
         synchronization_address: 0,
@@ -88,8 +88,8 @@ fn bare_case() {
         force_synchronization: true,
         universe: 1,
     };
-    pack::pack_data(&mut buf, CID, fields, b"", b"");
-    show(b"no name and no values", &buf);
+    pack::pack_data(&mut buf, CID, fields, b"", b"\x00");
+    show(b"no name and a start code alone", &buf);
 }
 
 fn synchronization_case() {

@@ -94,3 +94,4 @@ wanted-fits (why.Missing x) = fields-fit x
 wanted-fits (why.Beyond x) = rooms-fit x
 wanted-fits why.CountDiffers = omega arith
 wanted-fits why.LengthDiffers = omega arith
+wanted-fits why.NoStartCode = omega arith

@@ -87,3 +87,4 @@ wantedWords (why.Missing f) = fieldWords f
 wantedWords (why.Beyond r) = roomWords r
 wantedWords why.CountDiffers = ascii "10 less than the layer's length, which is "
 wantedWords why.LengthDiffers = ascii "exactly "
+wantedWords why.NoStartCode = ascii "1 to 513"

@@ -115,5 +115,6 @@ pub fn put_wanted(out: &mut [u8], at: usize, reason: Reason) -> usize
         Reason::Beyond(room) => put_room(out, at, room),
         Reason::CountDiffers => text::put(out, at, b"10 less than the layer's length, which is "),
         Reason::LengthDiffers => text::put(out, at, b"exactly "),
+        Reason::NoStartCode => text::put(out, at, b"1 to 513"),
     }
 }

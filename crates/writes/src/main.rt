@@ -60,12 +60,12 @@ fn data(words: &[u8], room: usize, name: &[u8], values: &[u8]) {
 }
 
 fn option_case(words: &[u8], preview: bool, terminated: bool, force: bool) {
-    let mut space = [UNTOUCHED; 125];
+    let mut space = [UNTOUCHED; 126];
     let mut fields = plain_fields();
     fields.preview_data = preview;
     fields.stream_terminated = terminated;
     fields.force_synchronization = force;
-    data_into(words, &mut space, b"", b"", fields);
+    data_into(words, &mut space, b"", b"\x00", fields);
 }
 
 fn synchronization(words: &[u8], room: usize) {
@@ -101,6 +101,9 @@ fn names_and_values() {
     data(b"(l) name of 64 bytes", 130, &name, &values[0..2]);
     data(b"(m) 513 values", 640, b"FOH", &values[0..513]);
     data(b"(m) 514 values", 640, b"FOH", &values);
+    data(b"one value", 130, b"FOH", b"\x00");
+    data(b"no values", 130, b"FOH", b"");
+    data(b"no values and one byte too little", 124, b"FOH", b"");
     data(b"a name with a zero", 130, b"a\x00b", b"");
     data(b"a malformed name", 130, b"FOH\xc3", b"");
     discovery(b"disc, a malformed name", 130, b"FOH\xc3", &[1]);

@@ -28,6 +28,7 @@ wrong-fits (why.Missing x) = omega arith
 wrong-fits (why.Beyond x) = omega arith
 wrong-fits why.CountDiffers = omega arith
 wrong-fits why.LengthDiffers = omega arith
+wrong-fits why.NoStartCode = omega arith
 
 pub layer-fits : (place : ℕ) → length (layerWords place) ≤ 15
 unfolding layerWords

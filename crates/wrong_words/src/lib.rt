@@ -54,5 +54,6 @@ pub fn put_wrong(out: &mut [u8], at: usize, reason: Reason) -> usize
             at,
             b"the length is not the number of bytes that are left for the layer",
         ),
+        Reason::NoStartCode => text::put(out, at, b"the count is 0, so there is no start code"),
     }
 }

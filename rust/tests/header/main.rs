@@ -44,7 +44,7 @@ fn the_exports_are_eight_functions_over_fourteen_structs() {
     let exported = rattle::exported(&rattle::sources());
     assert_eq!(exported.functions.len(), 8);
     assert_eq!(exported.structs.len(), 14);
-    assert_eq!(exported.constants.len(), 4 + 25 + 7);
+    assert_eq!(exported.constants.len(), 4 + 27 + 7);
 }
 
 #[test]

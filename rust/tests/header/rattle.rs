@@ -75,12 +75,15 @@ pub fn with_value(definitions: &Sources) -> BTreeMap<u32, bool> {
     told
 }
 
-/// The same by the tables of reading and writing: rows like `number =? 6 and .. and value =? 0`.
+/// The same by the tables of reading and writing: rows like `or number =? 6 and .. and value =? 0`, the
+/// first without `or`.
 pub fn with_value_in_tables(definitions: &Sources) -> BTreeMap<u32, bool> {
     let tables = ["packet/Table.antt", "pack/Table.antt"].map(|name| &definitions[name]);
     let rows = tables.into_iter().flat_map(|text| text.lines());
     rows.filter_map(|row| {
-        let (number, rest) = between(row, "number =? ", " ")?;
+        let row = row.trim_start();
+        let row = row.strip_prefix("or ").unwrap_or(row);
+        let (number, rest) = row.strip_prefix("number =? ")?.split_once(' ')?;
         Some((number.parse().ok()?, !rest.contains("value =? 0")))
     })
     .collect()

@@ -10,7 +10,7 @@ const BOUNDARY: &str = include_str!("../../src/ffi.rs");
 const REFUSAL: &str = include_str!("../../src/refusal.rs");
 
 /// The checks of reading, from number 1 on.
-pub const READING: [Check; 16] = [
+pub const READING: [Check; 17] = [
     Check::PartTooShort,
     Check::InvalidData,
     Check::InvalidFlags,
@@ -27,6 +27,7 @@ pub const READING: [Check; 16] = [
     Check::LengthBeyondPart,
     Check::CountDiffersFromLength,
     Check::LengthDiffersFromPart,
+    Check::NoStartCode,
 ];
 
 /// The layers, from place 1 on.

@@ -3,8 +3,9 @@
 //! make-captures speed FOLDER: large captures of good packets, to measure with: three for dump, and for
 //! follow one for each number of sources.
 //! make-captures sample FOLDER: the fixed sample of dump, sample.capture, and the lines expected of it,
-//! sample.lines, which are the crate's answers (`refusal` says how a place is found); and that of follow,
-//! follow.capture, with its lines by request 02's rules, follow.lines.
+//! sample.lines, which are the crate's answers (`refusal` says how a place is found) but for packets without
+//! a start code (`exception`); and that of follow, follow.capture, with its lines by request 02's rules,
+//! follow.lines.
 
 use judge::inputs::{self, script, Draw};
 use judge::random::Random;
@@ -58,10 +59,7 @@ fn full_data(i: usize, random: &mut Random) -> Record {
 /// A packet with a start code alone, in order.
 fn small_data(i: usize, sources: usize) -> Record {
     let number = (i / sources) as u8;
-    Record::Data(Data {
-        values: vec![0],
-        ..script::data(script::source(i % sources), number, 0)
-    })
+    Record::Data(script::data(script::source(i % sources), number, 0))
 }
 
 fn full_discovery(i: usize, random: &mut Random) -> Record {

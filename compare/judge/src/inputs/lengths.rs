@@ -75,7 +75,7 @@ fn shift(datagram: &[u8], layers: &[usize], sink: &mut dyn FnMut(Vec<u8>)) {
 /// Data framing parts of every size up to the DMP layer, with each field good and bad: a missing
 /// field counts when its turn comes, and a small framing length only after all fields.
 pub fn missing_fields(sink: &mut dyn FnMut(Vec<u8>)) {
-    let good = samples::data(b"Source_A", 0).datagram();
+    let good = samples::data(b"Source_A", 1).datagram();
     for part in 0..=good.len() - FRAMING {
         for framing in [6, 70, 76, 77, 78, part] {
             for change in bad_fields() {

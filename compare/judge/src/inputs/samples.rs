@@ -42,10 +42,10 @@ pub fn small() -> Vec<Record> {
     vec![sync(), data(b"Source_A", 2), discovery(b"Source_B", 3)]
 }
 
-/// Small packets, with empty names and lists among them.
+/// Small packets, with empty names and lists among them, and a packet without values, which the crate takes.
 pub fn smallest() -> Vec<Record> {
     let mut records = small();
-    records.extend([data(b"", 0), discovery(b"", 0)]);
+    records.extend([data(b"", 0), data(b"", 1), discovery(b"", 0)]);
     records
 }
 

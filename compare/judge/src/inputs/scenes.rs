@@ -173,9 +173,11 @@ impl Scene {
                 data.options |= option;
             }
         }
+        // Without values it is refused, and moves nothing.
         let count = match random.below(32) {
             0 => 513,
-            _ => random.below(4),
+            1 => 0,
+            _ => 1 + random.below(3),
         };
         data.values = random.bytes(count);
         Record::Data(data)

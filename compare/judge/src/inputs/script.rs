@@ -29,7 +29,7 @@ pub fn source(k: usize) -> Source {
     Source { cid, universe }
 }
 
-/// The smallest data packet.
+/// The smallest data packet, with a start code alone.
 pub fn data(source: Source, number: u8, options: u8) -> Data {
     Data {
         cid: source.cid,
@@ -39,7 +39,7 @@ pub fn data(source: Source, number: u8, options: u8) -> Data {
         sequence: number,
         options,
         universe: source.universe,
-        values: Vec::new(),
+        values: vec![0],
     }
 }
 
@@ -115,13 +115,17 @@ impl Script {
         self.send(source, START, 0);
         let ended = Record::Data(data(source, START + 1, TERMINATED)).datagram();
         let cut = ended[..ended.len() - 1].to_vec();
+        let empty = Record::Data(Data {
+            values: Vec::new(),
+            ..data(source, START + 1, TERMINATED)
+        });
         let (mut priority, mut universe) = (ended.clone(), ended);
         priority[PRIORITY] = u8::MAX;
         put16(&mut universe, UNIVERSE, 0);
         let kept = [sync(source, START + 1), discovery(source)].map(|record| record.datagram());
         for entry in kept
             .into_iter()
-            .chain([cut, priority, universe, Vec::new()])
+            .chain([cut, priority, universe, empty.datagram(), Vec::new()])
         {
             self.entries.push(entry);
             self.send(source, START, 0);

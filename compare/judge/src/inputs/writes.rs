@@ -78,6 +78,7 @@ pub fn refusals(sink: &mut Sink) {
     let names: [&[u8]; 5] = [b"ok", &[b'n'; 64], b"n\0n", b"\xff", &[0xff; 64]];
     for name in names {
         for records in [
+            samples::data(name, 0),
             samples::data(name, 513),
             samples::data(name, 514),
             samples::discovery(name, 512),

@@ -41,9 +41,16 @@ returns-3 : tie.Need-returns-3
 unfolding countedOf
 returns-3 c = stop 2 _ _ _ (omega arith) (c .refuse3 .ensures)
 
+refuse-requires-4 : tie.Need-refuse-requires-4
+refuse-requires-4 c κs = search needs
+
 returns-4 : tie.Need-returns-4
 unfolding countedOf
-returns-4 c = let counted = c .before .before in
+returns-4 c = stop 3 _ _ _ (omega arith) (c .refuse4 .ensures)
+
+returns-5 : tie.Need-returns-5
+unfolding countedOf
+returns-5 c = let counted = c .before .before .before in
     pass _ _ _ (omega arith) (ap Values (counted .u16-at .ensures))
 
 pub parse-count-spec : {M : Type 1} → statement M
@@ -60,4 +67,6 @@ parse-count-spec =
     returns-2
     refuse-requires-3
     returns-3
-    returns-4)
+    refuse-requires-4
+    returns-4
+    returns-5)

@@ -7,17 +7,19 @@ use lib.ListN.{length}
 use Rattle.refusal.specs.Check.{Numbered, checkedOf}
 use Rattle.refusal.specs.declared.Checked.the-variants as checked
 use Rattle.refusal.proofs.Laws.{stop, pass}
-use Rattle.pack.specs.Writing.{countCheck}
+use Rattle.pack.specs.Writing.{valuesCheck, countCheck}
 use Rattle.pack.proofs.Writing.{judged}
 use Rattle.pack.proofs.check_data.Statement.{statement}
 use Rattle.pack.proofs.check_data.Tie as tie
 
--- the function's start, and the check behind the name
+-- the function's start, and the checks behind the name
 abbrev start : tie.After-check-source-name → tie.Start
 start c = c .before .before .before .before
 
 abbrev counted : tie.After-check-source-name → List Numbered
-counted c = countCheck 513 (length (now (start c .args .values))) ∷ []
+counted c =
+    let n = length (now (start c .args .values)) in
+    valuesCheck n ∷ countCheck 513 n ∷ []
 
 add-if1 : tie.Need-add-if1
 add-if1 c = search needs
@@ -49,16 +51,27 @@ returns-2 c =
     judged _ _ (now (start read .args .name)) (counted read) checked.Passed (omega arith) (sym (read .check-source-name .ensures) ∙ told .enum-told .given .1)
     (stop 0 _ _ _ (omega arith) (c .refuse2 .ensures))
 
+refuse-requires-3 : tie.Need-refuse-requires-3
+refuse-requires-3 c κs = search needs
+
 returns-3 : tie.Need-returns-3
+unfolding checkedOf
 returns-3 c =
+    let told = c .before .before .before in
+    let read = told .before .before in
+    judged _ _ (now (start read .args .name)) (counted read) checked.Passed (omega arith) (sym (read .check-source-name .ensures) ∙ told .enum-told .given .1)
+    (stop 1 _ _ _ (omega arith) (c .refuse3 .ensures))
+
+returns-4 : tie.Need-returns-4
+returns-4 c =
     let known = c .before in
     let read = known .before .before in
     judged _ _ (now (start read .args .name)) (counted read) (checked.Refused _) (omega arith) (sym (read .check-source-name .ensures) ∙ known .r .given .1) refl
 
-returns-4 : tie.Need-returns-4
+returns-5 : tie.Need-returns-5
 unfolding checkedOf
-returns-4 c =
-    let told = c .before in
+returns-5 c =
+    let told = c .before .before in
     let read = told .before .before in
     judged _ _ (now (start read .args .name)) (counted read) checked.Passed (omega arith) (sym (read .check-source-name .ensures) ∙ told .enum-told .given .1)
     (pass _ _ _ (omega arith) refl)
@@ -75,5 +88,7 @@ check-data-spec =
     enum-told
     refuse-requires-2
     returns-2
+    refuse-requires-3
     returns-3
-    returns-4)
+    returns-4
+    returns-5)

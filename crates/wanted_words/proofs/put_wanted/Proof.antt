@@ -127,6 +127,15 @@ slice-aggregate-put-9 c = search needs
 put-requires-9 : tie.Need-put-requires-9
 put-requires-9 c κs = search needs
 
+enum-told-10 : tie.Need-enum-told-10
+enum-told-10 c = search needs
+
+slice-aggregate-put-10 : tie.Need-slice-aggregate-put-10
+slice-aggregate-put-10 c = search needs
+
+put-requires-10 : tie.Need-put-requires-10
+put-requires-10 c κs = search needs
+
 same-length : tie.Need-same-length
 same-length c = search needs
 
@@ -239,6 +248,13 @@ returns-16 : tie.Need-returns-16
 unfolding wantedWords
 returns-16 c = put-as (c .before .before .put9 .ensures) (rw (c .before .before .before .before .before .enum-told9 .given .1))
 
+same-length-17 : tie.Need-same-length-17
+same-length-17 c = search needs
+
+returns-17 : tie.Need-returns-17
+unfolding wantedWords
+returns-17 c = put-as (c .before .before .put10 .ensures) (rw (c .before .before .before .before .before .enum-told10 .given .1))
+
 pub put-wanted-spec : {M : Type 1} → statement M
 put-wanted-spec =
     tie.close
@@ -284,6 +300,9 @@ put-wanted-spec =
     enum-told-9
     slice-aggregate-put-9
     put-requires-9
+    enum-told-10
+    slice-aggregate-put-10
+    put-requires-10
     same-length
     returns
     same-length-2
@@ -315,4 +334,6 @@ put-wanted-spec =
     same-length-15
     returns-15
     same-length-16
-    returns-16)
+    returns-16
+    same-length-17
+    returns-17)

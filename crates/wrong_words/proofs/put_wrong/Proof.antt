@@ -148,6 +148,15 @@ slice-aggregate-put-16 c = search needs
 put-requires-16 : tie.Need-put-requires-16
 put-requires-16 c κs = search needs
 
+enum-told-17 : tie.Need-enum-told-17
+enum-told-17 c = search needs
+
+slice-aggregate-put-17 : tie.Need-slice-aggregate-put-17
+slice-aggregate-put-17 c = search needs
+
+put-requires-17 : tie.Need-put-requires-17
+put-requires-17 c κs = search needs
+
 same-length : tie.Need-same-length
 same-length c = search needs
 
@@ -260,6 +269,13 @@ returns-16 : tie.Need-returns-16
 unfolding wrongWords
 returns-16 c = put-as (c .before .before .put16 .ensures) (rw (c .before .before .before .before .before .enum-told16 .given .1))
 
+same-length-17 : tie.Need-same-length-17
+same-length-17 c = search needs
+
+returns-17 : tie.Need-returns-17
+unfolding wrongWords
+returns-17 c = put-as (c .before .before .put17 .ensures) (rw (c .before .before .before .before .before .enum-told17 .given .1))
+
 pub put-wrong-spec : {M : Type 1} → statement M
 put-wrong-spec =
     tie.close
@@ -312,6 +328,9 @@ put-wrong-spec =
     enum-told-16
     slice-aggregate-put-16
     put-requires-16
+    enum-told-17
+    slice-aggregate-put-17
+    put-requires-17
     same-length
     returns
     same-length-2
@@ -343,4 +362,6 @@ put-wrong-spec =
     same-length-15
     returns-15
     same-length-16
-    returns-16)
+    returns-16
+    same-length-17
+    returns-17)

@@ -39,13 +39,21 @@ add-at-2 c = search needs
 at-requires-5 : tie.Need-at-requires-5
 at-requires-5 c κs = search needs
 
+add-at-3 : tie.Need-add-at-3
+add-at-3 c = search needs
+
+at-requires-6 : tie.Need-at-requires-6
+at-requires-6 c κs = search needs
+
+-- what is left when the match is through: none of its seven numbers, each taken from the match, since they are too many cases for one search
 not-allowed-requires : tie.Need-not-allowed-requires
 not-allowed-requires c κs =
     let s = c .before .before in
+    let gone = c .match .rest in
     let number =
-    among (λ (r : Refusal). r .number =? 1 or r .number =? 3 or r .number =? 14 or r .number =? 4 or r .number =? 13 or r .number =? 15 or r .number =? 2) (dmpChecks (now (s .args .q))) (s .args .refusal) refl
+    among (λ (r : Refusal). r .number =? 1 or r .number =? 3 or r .number =? 14 or r .number =? 4 or r .number =? 13 or r .number =? 15 or r .number =? 17 or r .number =? 2) (dmpChecks (now (s .args .q))) (s .args .refusal) refl
     (s .pre) in
-    (s .pre, number (omega arith) (omega arith) (omega arith) (omega arith) (omega arith) (omega arith), at-dmp s)
+    (s .pre, number (gone .0 .0 .0 .0 .0 .0 .1) (gone .0 .0 .0 .0 .0 .1) (gone .0 .0 .0 .0 .1) (gone .0 .0 .0 .1) (gone .0 .0 .1) (gone .0 .1) (gone .1), at-dmp s)
 
 returns : tie.Need-returns
 returns c =
@@ -76,7 +84,12 @@ returns-6 c =
     by-last 15 dmp (dmpChecks (now (s .args .q))) (s .args .refusal) _ (s .pre) (omega arith) (at-dmp s) (c .at5 .ensures)
 
 returns-7 : tie.Need-returns-7
-returns-7 c = search needs
+returns-7 c =
+    let s = c .before .before .before in
+    by-last 17 dmp (dmpChecks (now (s .args .q))) (s .args .refusal) _ (s .pre) (omega arith) (at-dmp s) (c .at6 .ensures)
+
+returns-8 : tie.Need-returns-8
+returns-8 c = search needs
 
 pub find-spec : {M : Type 1} → statement M
 find-spec =
@@ -90,6 +103,8 @@ find-spec =
     missing-requires
     add-at-2
     at-requires-5
+    add-at-3
+    at-requires-6
     not-allowed-requires
     returns
     returns-2
@@ -97,4 +112,5 @@ find-spec =
     returns-4
     returns-5
     returns-6
-    returns-7)
+    returns-7
+    returns-8)
