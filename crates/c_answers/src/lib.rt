@@ -1,5 +1,7 @@
 // Answers as Rust and C take them: an enum is a number and, beside it, the record of every case, with zeros in those
 // that the number does not name.
+#![tactic(auto)]
+
 ghost use Rattle.std.specs.Prelude.{◌≡◌};
 ghost use Rattle.c_answers.specs.Answers.{no_refusal, no_span, no_data, no_synchronization, no_discovery, refused_found, data_found, synchronization_found, discovery_found, found_of, refused2009, data2009, found2009_of, packed_outcome, copied_outcome, refusal_of, address_of};
 
@@ -23,7 +25,7 @@ const SYNCHRONIZATION: u8 = 2;
 const DISCOVERY: u8 = 3;
 
 #[repr(C)]
-#[derive(Drop)]
+#[derive(Clone, Copy)]
 pub struct Found {
     pub kind: u8,
     pub cid: [u8; 16],
@@ -37,7 +39,7 @@ pub struct Found {
 }
 
 #[repr(C)]
-#[derive(Drop)]
+#[derive(Clone, Copy)]
 pub struct Found2009 {
     pub kind: u8,
     pub cid: [u8; 16],
@@ -49,21 +51,21 @@ pub struct Found2009 {
 
 // The plain part of a packet that is to be written.
 #[repr(C)]
-#[derive(Drop)]
+#[derive(Clone, Copy)]
 pub struct DataHeader {
     pub cid: [u8; 16],
     pub fields: DataFields,
 }
 
 #[repr(C)]
-#[derive(Drop)]
+#[derive(Clone, Copy)]
 pub struct SynchronizationHeader {
     pub cid: [u8; 16],
     pub fields: SynchronizationFields,
 }
 
 #[repr(C)]
-#[derive(Drop)]
+#[derive(Clone, Copy)]
 pub struct DiscoveryHeader {
     pub cid: [u8; 16],
     pub fields: DiscoveryFields,
@@ -71,14 +73,14 @@ pub struct DiscoveryHeader {
 
 // How many bytes or numbers were written; none at a refusal. A refusal's number is 0 where there is none.
 #[repr(C)]
-#[derive(Drop)]
+#[derive(Clone, Copy)]
 pub struct Outcome {
     pub refusal: Refusal,
     pub count: usize,
 }
 
 #[repr(C)]
-#[derive(Drop)]
+#[derive(Clone, Copy)]
 pub struct Address {
     pub refusal: Refusal,
     pub address: Ipv4Address,

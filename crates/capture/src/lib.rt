@@ -1,4 +1,6 @@
 // A capture: entries of a length and that many bytes.
+#![tactic(auto)]
+
 ghost use Rattle.std.specs.Prelude.{◌≡◌, ◌<◌};
 ghost use Rattle.wire.specs.Fields.{byte_at};
 ghost use Rattle.capture.specs.Length.{length_of};
@@ -12,7 +14,7 @@ const GROUP: usize = 0x80;
 pub const LONGEST_ENTRY: usize = 8192;
 
 // The length in front of an entry, and how many bytes it takes up.
-#[derive(Drop)]
+#[derive(Clone, Copy)]
 pub enum Length {
     Whole { len: usize, used: usize },
     Bad,
@@ -21,7 +23,7 @@ pub enum Length {
 }
 
 // What stands at the front of a capture: an entry's bytes are the `len` from `start` on.
-#[derive(Drop)]
+#[derive(Clone, Copy)]
 pub enum Front {
     Entry { start: usize, len: usize },
     Bad,
@@ -30,7 +32,7 @@ pub enum Front {
 }
 
 // How a capture ends: at its end, inside an entry or its length, at a bad length.
-#[derive(Drop)]
+#[derive(Clone, Copy)]
 pub enum Ending {
     End,
     Cut,

@@ -1,5 +1,7 @@
 // The entries of a capture on standard input, one at a time. Input arrives in large blocks: a system call for each entry
 // would cost more than the entry.
+#![tactic(auto)]
+
 ghost use Rattle.std.specs.Prelude.{◌≡◌, false, ◌+◌, ◌≤◌, length, take, drop};
 ghost use Rattle.std.proofs.lemmas.List.Edits.{sets};
 ghost use Rattle.capture.specs.Entry.{front_of};
@@ -10,27 +12,27 @@ use capture::{Ending, Front};
 use standard_io::Heard;
 
 // What is left of a block of input.
-#[derive(Drop)]
+#[derive(Clone, Copy)]
 pub struct Unread {
     pub start: usize,
     pub len: usize,
 }
 
-#[derive(Drop)]
+#[derive(Clone, Copy)]
 pub enum Next {
     Entry { len: usize },
     Stop(Ending),
     Failed,
 }
 
-#[derive(Drop)]
+#[derive(Clone, Copy)]
 pub struct Step {
     pub next: Next,
     pub unread: Unread,
     pub heard: Heard,
 }
 
-#[derive(Drop)]
+#[derive(Clone, Copy)]
 struct Filled {
     unread: Unread,
     heard: Heard,

@@ -1,4 +1,6 @@
 // The loop of the programs that tell a line of each entry of a capture.
+#![tactic(auto)]
+
 ghost use Rattle.std.specs.Prelude.{◌≡◌, ◌<◌, length};
 ghost use Rattle.turns.specs.Turn.{TurnAfter};
 ghost use Rattle.turns.specs.Run.{moment_of, Ran};

@@ -1,4 +1,6 @@
 // CIDs, sixteen bytes that name a component: whether two are the same.
+#![tactic(auto)]
+
 ghost use Rattle.std.specs.Prelude.{◌≡◌};
 ghost use Rattle.refusal.specs.Check.{outcome};
 ghost use Rattle.cid.specs.Same.{same_cid};

@@ -1,4 +1,6 @@
 // The universe discovery layer: a page of universes, strictly ascending.
+#![tactic(auto)]
+
 ghost use Rattle.std.specs.Prelude.{true, ◌≡◌, ◌+◌, ◌*◌, ◌≤◌, ◌<◌, length};
 ghost use Rattle.std.proofs.lemmas.List.Edits.{sets};
 ghost use Rattle.wire.specs.Fields.{u16_at};
@@ -27,13 +29,13 @@ pub const E131_UNIVERSE_FIELD_LENGTH: usize = 2;
 const BLOCK: usize = 16;
 
 #[repr(C)]
-#[derive(Drop)]
+#[derive(Clone, Copy)]
 pub struct DiscoveryFields {
     pub page: u8,
     pub last_page: u8,
 }
 
-#[derive(Drop)]
+#[derive(Clone, Copy)]
 pub enum Discovery {
     Universes { fields: DiscoveryFields, count: u16 },
     Refused(Refusal),

@@ -1,4 +1,6 @@
 // The DMP layer of a data packet: the property values, start code first.
+#![tactic(auto)]
+
 ghost use Rattle.std.specs.Prelude.{◌≡◌};
 ghost use Rattle.std.proofs.lemmas.List.Edits.{sets};
 ghost use Rattle.refusal.specs.Check.{refusal, dmp as dmp_place};
@@ -23,7 +25,7 @@ pub const PROPERTY_VALUE_COUNT_FIELD_INDEX: usize = 8;
 
 const PROPERTY_VALUES_FIELD_INDEX: usize = DMP_LENGTH;
 
-#[derive(Drop)]
+#[derive(Clone, Copy)]
 pub enum Dmp {
     Values { count: usize },
     Refused(Refusal),

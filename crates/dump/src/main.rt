@@ -1,4 +1,6 @@
 // Reads a capture on standard input, and tells each entry in a line on standard output.
+#![tactic(auto)]
+
 ghost use Rattle.turns.specs.Run.{beginning, Ran};
 ghost use Rattle.dump.specs.Dump.{dumping};
 

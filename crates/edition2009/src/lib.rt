@@ -1,5 +1,7 @@
 // A whole datagram as the edition of 2009 reads it: data packets only, and neither the synchronization address
 // nor the option to force synchronization.
+#![tactic(auto)]
+
 ghost use Rattle.std.specs.Prelude.{◌≡◌};
 ghost use Rattle.parts.specs.Parts.{shown_at};
 ghost use Rattle.edition2009.specs.Packet.{fields2009_of, data_packet2009_of, packet2009_of, reading2009_of};
@@ -14,7 +16,7 @@ use wire::constants::{E131_PREVIEW_DATA_OPTION_BIT_MASK, E131_STREAM_TERMINATION
 use wire::layout::{FRAMING_START, PREAMBLE_LENGTH, SOURCE_NAME_START, VALUES_START};
 
 #[repr(C)]
-#[derive(Drop)]
+#[derive(Clone, Copy)]
 pub struct DataFields2009 {
     pub priority: u8,
     pub sequence_number: u8,
@@ -23,21 +25,21 @@ pub struct DataFields2009 {
     pub universe: u16,
 }
 
-#[derive(Drop)]
+#[derive(Clone, Copy)]
 pub struct DataRecord2009 {
     pub fields: DataFields2009,
     pub name: Span,
     pub values: Span,
 }
 
-#[derive(Drop)]
+#[derive(Clone, Copy)]
 pub enum Packet2009 {
     Data(DataRecord2009),
     Refused(Refusal),
 }
 
 // The sender's CID stands beside what was read; it is sixteen zeros at a refusal.
-#[derive(Drop)]
+#[derive(Clone, Copy)]
 pub struct Reading2009 {
     pub cid: [u8; 16],
     pub packet: Packet2009,

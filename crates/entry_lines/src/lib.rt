@@ -1,5 +1,7 @@
 // The line of an entry, by what a program tells: what was read, the same of those that a pattern picks, or what both
 // readers find.
+#![tactic(auto)]
+
 ghost use Rattle.std.specs.Prelude.{◌≡◌, ◌+◌, ◌*◌, ◌≤◌, length};
 ghost use Rattle.name_pattern.specs.Rule.{star, same};
 ghost use Rattle.text.specs.Put.{Put};
@@ -8,7 +10,7 @@ ghost use Rattle.entry_lines.specs.Lines.{record_line, passes_of, picked_line, r
 use packet::{Packet, Reading};
 use pdu::Edition;
 
-#[derive(Drop)]
+#[derive(Clone, Copy)]
 pub enum Lines {
     Records,
     Picked,

@@ -1,4 +1,6 @@
 // The framing layers under the extended root vector: what is told before the kind of packet is known.
+#![tactic(auto)]
+
 pub mod synchronization;
 pub mod universe_discovery;
 
@@ -12,7 +14,7 @@ use pdu::{PduInfo, VectorLength};
 use refusal::Refusal;
 use wire::constants::{VECTOR_E131_EXTENDED_DISCOVERY, VECTOR_E131_EXTENDED_SYNCHRONIZATION};
 
-#[derive(Drop)]
+#[derive(Clone, Copy)]
 pub enum Extended {
     Synchronization(SynchronizationFields),
     Discovery {

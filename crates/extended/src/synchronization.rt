@@ -17,13 +17,13 @@ const E131_SYNC_FRAMING_LAYER_SEQ_NUM_FIELD_INDEX: usize = 6;
 pub const E131_SYNC_FRAMING_LAYER_SYNC_ADDRESS_FIELD_INDEX: usize = 7;
 
 #[repr(C)]
-#[derive(Drop)]
+#[derive(Clone, Copy)]
 pub struct SynchronizationFields {
     pub sequence_number: u8,
     pub synchronization_address: u16,
 }
 
-#[derive(Drop)]
+#[derive(Clone, Copy)]
 pub enum Synchronization {
     Layer(SynchronizationFields),
     Refused(Refusal),

@@ -23,7 +23,7 @@ const E131_DISCOVERY_FRAMING_LAYER_DATA_INDEX: usize = DISCOVERY_FRAMING_LENGTH;
 const EMPTY_LENGTH: usize = DISCOVERY_FRAMING_LENGTH + DISCOVERY_LENGTH;
 
 // A layer that is read: how many bytes its name has, and its page with as many universes.
-#[derive(Drop)]
+#[derive(Clone, Copy)]
 pub enum DiscoveryFraming {
     Layer {
         name: usize,

@@ -1,5 +1,7 @@
 // Which check refuses a datagram, and at which byte of it. A reader answers a number and a place. Where several checks
 // have both in common, what the reader looked at is looked at again: so reading pays nothing for it.
+#![tactic(auto)]
+
 mod data_framing;
 mod dmp_layer;
 mod extended_framing;
@@ -21,13 +23,13 @@ use wire::constants::VECTOR_ROOT_E131_DATA;
 use wire::layout::{FRAMING_START, PREAMBLE_LENGTH};
 
 // What the reader answers, and which of its checks it is.
-#[derive(Drop)]
+#[derive(Clone, Copy)]
 pub struct Fault {
     pub refusal: Refusal,
     pub check: Identity,
 }
 
-#[derive(Drop)]
+#[derive(Clone, Copy)]
 pub enum Told {
     Readable,
     Refused(Fault),

@@ -1,4 +1,6 @@
 // Fields as the words and numbers of a line, each with a space before it.
+#![tactic(auto)]
+
 ghost use Rattle.std.specs.Prelude.{◌≡◌, ◌++◌};
 ghost use Rattle.text.specs.Put.{Put};
 ghost use Rattle.text.specs.Digits.{decimal, hex};

@@ -1,4 +1,6 @@
 // What a reader finds in a datagram, in words for people who have not read document 01.
+#![tactic(auto)]
+
 mod numbers;
 
 ghost use Rattle.std.specs.Prelude.{◌+◌, ◌≤◌, length};

@@ -16,7 +16,7 @@ use wire::layout::{
 const DMP_HEAD_LENGTH: u64 = 3;
 
 // Where a number comes from: the refusal, the datagram from the told byte on, or a layer's length and room.
-#[derive(Drop)]
+#[derive(Clone, Copy)]
 pub enum Source {
     Nowhere,
     Value,
@@ -30,7 +30,7 @@ pub enum Source {
     Head,
 }
 
-#[derive(Drop)]
+#[derive(Clone, Copy)]
 pub enum Shown {
     Nothing,
     Number(u64),

@@ -1,5 +1,7 @@
 // Reads a capture on standard input and follows its sequence numbers: a line on standard output tells what became of
 // each entry, and the totals stand before the last line.
+#![tactic(auto)]
+
 ghost use Rattle.std.specs.Prelude.{◌≡◌, ◌+◌, ◌≤◌, ◌<◌, length};
 ghost use Rattle.text.specs.Put.{Put};
 ghost use Rattle.line.specs.Lines.{refused_line};
@@ -19,7 +21,7 @@ use turns::{BLOCK, Found, MOST_ENTRIES, State};
 const SOURCES: usize = 1024;
 
 // Between two entries: n are behind, and these are the totals after them.
-#[derive(Drop)]
+#[derive(Clone, Copy)]
 struct Progress {
     state: State,
     n: u64,
@@ -27,7 +29,7 @@ struct Progress {
 }
 
 // What comes next in the capture, and what is heard of it.
-#[derive(Drop)]
+#[derive(Clone, Copy)]
 struct Caught {
     found: Found,
     heard: Heard,

@@ -1,5 +1,7 @@
 // The rules by which sequence numbers are followed: what becomes of a packet, by the totals so far and by what a table
 // of sources has of its source.
+#![tactic(auto)]
+
 ghost use Rattle.std.specs.Prelude.{◌≡◌, false, ltb};
 ghost use Rattle.refusal.specs.Check.{pick, outcome};
 ghost use Rattle.refusal.proofs.Tests.{Fails};
@@ -17,7 +19,7 @@ pub const TOTAL_AT_LARGEST: u8 = 40;
 pub const NO_FREE_ENTRY: u8 = 41;
 
 // A table's entry for a source, which is a CID and a universe: its last number. A free entry may hold anything.
-#[derive(Drop)]
+#[derive(Clone, Copy)]
 pub struct Entry {
     pub cid: [u8; 16],
     pub universe: u16,
@@ -26,14 +28,14 @@ pub struct Entry {
 }
 
 // What is followed of a data packet; the CID stands beside it.
-#[derive(Drop)]
+#[derive(Clone, Copy)]
 pub struct Sent {
     pub universe: u16,
     pub sequence_number: u8,
     pub stream_terminated: bool,
 }
 
-#[derive(Drop)]
+#[derive(Clone, Copy)]
 pub enum Kind {
     Data(Sent),
     Other,
@@ -41,14 +43,14 @@ pub enum Kind {
 }
 
 // What is heard of a datagram.
-#[derive(Drop)]
+#[derive(Clone, Copy)]
 pub struct Heard {
     pub cid: [u8; 16],
     pub kind: Kind,
 }
 
 // What became of a datagram. A refusal of reading's own is told apart from those of the follower.
-#[derive(Drop)]
+#[derive(Clone, Copy)]
 pub enum Answer {
     Accepted,
     Discarded,
@@ -58,7 +60,7 @@ pub enum Answer {
 }
 
 // How many data packets were accepted, discarded, and refused for want of room.
-#[derive(Drop)]
+#[derive(Clone, Copy)]
 pub struct Totals {
     pub accepted: u64,
     pub discarded: u64,
@@ -66,14 +68,14 @@ pub struct Totals {
 }
 
 // What a datagram gives back: the answer, and the next totals.
-#[derive(Drop)]
+#[derive(Clone, Copy)]
 pub struct Followed {
     pub answer: Answer,
     pub totals: Totals,
 }
 
 // What a table has of a source: its first entry, with its last number; or else the first free one.
-#[derive(Drop)]
+#[derive(Clone, Copy)]
 pub enum Spot {
     Ours { at: usize, last: u8 },
     Free { at: usize },
@@ -81,7 +83,7 @@ pub enum Spot {
 }
 
 // What is to be done: whether an entry is stored, where and which; and what is given back.
-#[derive(Drop)]
+#[derive(Clone, Copy)]
 pub struct Decision {
     pub stores: bool,
     pub at: usize,

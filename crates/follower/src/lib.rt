@@ -1,5 +1,7 @@
 // The sequence numbers of data packets, followed for each source in a lent table. What becomes of a packet is the rules'
 // to say; the calls here walk the table.
+#![tactic(auto)]
+
 ghost use Rattle.std.specs.Prelude.{◌≡◌};
 ghost use Rattle.follow_rules.specs.Table.{spot_of};
 ghost use Rattle.follower.specs.Follow.{heard_of, carried_out, after, follow_heard, follow_of};

@@ -1,4 +1,6 @@
 // The framing layer of a data packet, in both editions.
+#![tactic(auto)]
+
 ghost use Rattle.std.specs.Prelude.{◌≡◌, ◌≤◌, length as list_length};
 ghost use Rattle.std.proofs.lemmas.List.Edits.{sets};
 ghost use Rattle.refusal.specs.Check.{refusal, checked_of, framing as framing_place};
@@ -35,7 +37,7 @@ const DATA_INDEX: usize = DATA_FRAMING_LENGTH;
 const EMPTY_LENGTH: usize = DATA_FRAMING_LENGTH + DMP_LENGTH;
 
 #[repr(C)]
-#[derive(Drop)]
+#[derive(Clone, Copy)]
 pub struct DataFields {
     pub priority: u8,
     pub synchronization_address: u16,
@@ -47,7 +49,7 @@ pub struct DataFields {
 }
 
 // A layer that is read: how many bytes its name has, and how many values it carries.
-#[derive(Drop)]
+#[derive(Clone, Copy)]
 pub enum Data {
     Layer { name: usize, values: usize },
     Refused(Refusal),

@@ -1,4 +1,6 @@
 // Vectors for the leaves: universes and their addresses, UTF-8 at the boundary of every range, names in their field and at writing.
+#![tactic(auto)]
+
 ghost use Rattle.std.specs.Prelude.{◌<◌, ◌^◌};
 
 use name::SourceName;

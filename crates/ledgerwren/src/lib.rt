@@ -1,4 +1,6 @@
 // What Rust and C link. Each call hands on, as plain structs, what the proved call answers.
+#![tactic(auto)]
+
 ghost use Rattle.std.specs.Prelude.{◌≡◌, length};
 ghost use Rattle.refusal.specs.Check.{checked_of};
 ghost use Rattle.universe.specs.Universe.{universe_checks, multicast_of};

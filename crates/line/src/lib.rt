@@ -1,4 +1,6 @@
 // The lines that tell what was read: one for each entry of a capture, and a last one.
+#![tactic(auto)]
+
 ghost use Rattle.text.specs.Put.{Put};
 ghost use Rattle.line.specs.Lines.{data_line, synchronization_line, discovery_line, refused_line, line_of, last_word, last_line};
 

@@ -1,6 +1,8 @@
 // One kind of work over the list of all 65,536 universes, again and again: standard input has its letter and eight
 // digits, the number of rounds. A round of w writes all pages, one of c collects them, and one of j feeds the last page
 // to a collector that has all. Prints a number over what came out.
+#![tactic(auto)]
+
 use pack::Packed;
 use page_collector::{Answer, Collected, Collector};
 

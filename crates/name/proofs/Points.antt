@@ -133,16 +133,16 @@ decoded : (a : ℕ) (s : List ℕ) → Lacks (lead_of a) s → Point (a ∷ s)
 unfolding encode_table lead_table trailed choose
 decoded a =
     each (λ e. (s : List ℕ) → Lacks e s → Point (a ∷ s)) (lead_table a)
-    (λ h. codes a 0 _ (omega arith))
-    (λ h. codes a 0xc0 _ (omega arith))
-    (λ h. codes a 0xe0 _ (omega arith))
-    (λ h. codes a 0xe0 _ (omega arith))
-    (λ h. codes a 0xe0 _ (omega arith))
-    (λ h. codes a 0xe0 _ (omega arith))
-    (λ h. codes a 0xf0 _ (omega arith))
-    (λ h. codes a 0xf0 _ (omega arith))
-    (λ h. codes a 0xf0 _ (omega arith))
-    (codes a 0 _ (omega arith))
+    (λ h. codes a 0 Lead (omega arith))
+    (λ h. codes a 0xc0 (trailed 1) (omega arith))
+    (λ h. codes a 0xe0 (Trail 0xa0 0xbf 1) (omega arith))
+    (λ h. codes a 0xe0 (trailed 2) (omega arith))
+    (λ h. codes a 0xe0 (trailed 2) (omega arith))
+    (λ h. codes a 0xe0 (Trail 0x80 0x9f 1) (omega arith))
+    (λ h. codes a 0xf0 (Trail 0x90 0xbf 2) (omega arith))
+    (λ h. codes a 0xf0 (trailed 3) (omega arith))
+    (λ h. codes a 0xf0 (Trail 0x80 0x8f 2) (omega arith))
+    (codes a 0 Malformed (omega arith))
 
 never : (s : List ℕ) → Lacks Malformed s → ⊥
 never [] h = h

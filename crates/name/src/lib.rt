@@ -1,4 +1,6 @@
 // Source names: where one ends in its field, and whether its bytes are well-formed UTF-8.
+#![tactic(auto)]
+
 mod utf8;
 mod walk;
 mod words;
@@ -12,7 +14,7 @@ use refusal::{Checked, Refusal};
 pub use utf8::whole_characters;
 use wire::constants::E131_SOURCE_NAME_FIELD_LENGTH;
 
-#[derive(Drop)]
+#[derive(Clone, Copy)]
 pub enum SourceName {
     Text { len: usize },
     Refused(Refusal),

@@ -3,7 +3,7 @@ ghost use Rattle.std.specs.Prelude.{◌≡◌};
 ghost use Rattle.name.specs.Utf8.{lead_of, trailed, step, marked, whole_chars};
 
 // What the next byte has to be.
-#[derive(Drop)]
+#[derive(Clone, Copy)]
 pub enum Expect {
     // The first byte of a character; the text may also end here.
     Lead,

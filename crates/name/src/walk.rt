@@ -8,7 +8,7 @@ use crate::words::WORD;
 use crate::{utf8, words};
 
 // The bytes before the first zero, or all: how many, and how many of them form whole characters.
-#[derive(Drop)]
+#[derive(Clone, Copy)]
 pub(crate) struct Walked {
     pub(crate) len: usize,
     pub(crate) whole: usize,

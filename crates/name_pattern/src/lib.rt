@@ -1,5 +1,7 @@
 // Which names a pattern picks: a star takes any run of characters, also none, a question mark one whole character, any
 // other character itself, and all of the name is taken.
+#![tactic(auto)]
+
 ghost use Rattle.std.specs.Prelude.{◌≡◌, [], ◌∷◌, drop};
 ghost use Rattle.refusal.specs.Check.{checked_of};
 ghost use Rattle.name_pattern.specs.Pattern.{pattern_checks, picks_of};
@@ -22,7 +24,7 @@ const FIRST_CONTINUATION: u8 = 0x80;
 
 const LAST_CONTINUATION: u8 = 0xbf;
 
-#[derive(Drop)]
+#[derive(Clone, Copy)]
 enum Outcome {
     Taken,
     // The pattern does not take the name from here.

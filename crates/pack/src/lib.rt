@@ -1,4 +1,6 @@
 // Packets written into a lent buffer. Every test comes before the first byte: a refused write leaves the buffer as found.
+#![tactic(auto)]
+
 ghost use Rattle.std.specs.Prelude.{◌++◌, ◌≡◌, ◌+◌, ◌*◌, length};
 ghost use Rattle.std.proofs.lemmas.List.Edits.{sets};
 ghost use Rattle.refusal.specs.Check.{refusal, checked_of, nowhere};
@@ -31,7 +33,7 @@ const EMPTY_DISCOVERY_LENGTH: usize = UNIVERSES_START;
 const EMPTY_DISCOVERY_ROOT_LENGTH: usize = UNIVERSES_START - PREAMBLE_LENGTH;
 
 // A packet that is written, with its length.
-#[derive(Drop)]
+#[derive(Clone, Copy)]
 pub enum Packed {
     Length(usize),
     Refused(Refusal),

@@ -1,4 +1,6 @@
 // A whole datagram: what it is read as.
+#![tactic(auto)]
+
 ghost use Rattle.std.specs.Prelude.{◌≡◌};
 ghost use Rattle.packet.specs.Packet.{data_packet_of, extended_packet_of, packet_of, cid_in, reading_of};
 
@@ -16,33 +18,33 @@ use wire::layout::{
 
 // Where something stands in a datagram.
 #[repr(C)]
-#[derive(Drop)]
+#[derive(Clone, Copy)]
 pub struct Span {
     pub start: usize,
     pub len: usize,
 }
 
-#[derive(Drop)]
+#[derive(Clone, Copy)]
 pub struct DataRecord {
     pub fields: DataFields,
     pub name: Span,
     pub values: Span,
 }
 
-#[derive(Drop)]
+#[derive(Clone, Copy)]
 pub struct SynchronizationRecord {
     pub fields: SynchronizationFields,
 }
 
 // The universes are numbers of two bytes each.
-#[derive(Drop)]
+#[derive(Clone, Copy)]
 pub struct DiscoveryRecord {
     pub fields: DiscoveryFields,
     pub name: Span,
     pub universes: Span,
 }
 
-#[derive(Drop)]
+#[derive(Clone, Copy)]
 pub enum Packet {
     Data(DataRecord),
     Synchronization(SynchronizationRecord),
@@ -51,7 +53,7 @@ pub enum Packet {
 }
 
 // The sender's CID stands beside what was read; it is sixteen zeros at a refusal.
-#[derive(Drop)]
+#[derive(Clone, Copy)]
 pub struct Reading {
     pub cid: [u8; 16],
     pub packet: Packet,

@@ -1,4 +1,6 @@
 // The pages of one sender's universe list, collected in lent memory, and the list, joined once all are there.
+#![tactic(auto)]
+
 mod join;
 mod keep;
 
@@ -21,7 +23,7 @@ pub const NO_ROOM_FOR_PAGES: u8 = 43;
 pub const LIST_NOT_ASCENDING: u8 = 44;
 
 // What is known of one sender's pages: how many universes each has, one higher, so that 0 says that it is not there.
-#[derive(Drop)]
+#[derive(Clone, Copy)]
 pub struct Collector {
     pub cid: [u8; 16],
     pub last_page: u8,
@@ -29,7 +31,7 @@ pub struct Collector {
 }
 
 // What became of a datagram. Its page is kept, and another is missing; or all are there, and so is the list.
-#[derive(Drop)]
+#[derive(Clone, Copy)]
 pub enum Answer {
     Kept,
     List { count: usize },
@@ -37,7 +39,7 @@ pub enum Answer {
 }
 
 // What a datagram gives back: the answer, and the next collector.
-#[derive(Drop)]
+#[derive(Clone, Copy)]
 pub struct Collected {
     pub collector: Collector,
     pub answer: Answer,

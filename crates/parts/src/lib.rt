@@ -1,4 +1,6 @@
 // The parts of a datagram that a reading shows, and its universes copied out.
+#![tactic(auto)]
+
 pub mod plain;
 
 ghost use Rattle.std.specs.Prelude.{◌≡◌, length};
@@ -9,13 +11,13 @@ ghost use Rattle.parts.specs.Parts.{shown_at, name_span, values_span, spans_of, 
 use packet::{DiscoveryRecord, Packet, Reading, Span};
 use refusal::Refusal;
 
-#[derive(Drop)]
+#[derive(Clone, Copy)]
 pub struct Spans {
     pub name: Span,
     pub values: Span,
 }
 
-#[derive(Drop)]
+#[derive(Clone, Copy)]
 pub enum Copied {
     Universes { count: usize },
     Refused(Refusal),

@@ -8,7 +8,7 @@ use framing::DataFields;
 use packet::{Packet, Reading};
 use refusal::Refusal;
 
-#[derive(Drop)]
+#[derive(Clone, Copy)]
 pub enum Kind {
     Data,
     Synchronization,
@@ -16,7 +16,7 @@ pub enum Kind {
     Refused,
 }
 
-#[derive(Drop)]
+#[derive(Clone, Copy)]
 pub enum Fields {
     Data(DataFields),
     Synchronization(SynchronizationFields),
@@ -25,7 +25,7 @@ pub enum Fields {
 }
 
 // A record without its spans.
-#[derive(Drop)]
+#[derive(Clone, Copy)]
 pub struct Plain {
     pub cid: [u8; 16],
     pub fields: Fields,

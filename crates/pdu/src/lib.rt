@@ -1,5 +1,7 @@
 // What every layer starts with, four bits of flags, twelve of length, then the layer's vector; and the edition of the
 // standard by which layers are read.
+#![tactic(auto)]
+
 ghost use Rattle.std.specs.Prelude.{◌≡◌};
 ghost use Rattle.std.proofs.lemmas.List.Edits.{sets};
 ghost use Rattle.pdu.specs.Head.{size_of, vector_of, info_of, flags_field, layer_head};
@@ -9,19 +11,19 @@ use wire::constants::{E131_PDU_FLAGS, E131_PDU_LENGTH_FLAGS_LENGTH};
 
 // What the editions differ in: 2009 knows data packets only, no synchronization address and no option to
 // force synchronization.
-#[derive(Drop)]
+#[derive(Clone, Copy)]
 pub enum Edition {
     E2018,
     E2009,
 }
 
-#[derive(Drop)]
+#[derive(Clone, Copy)]
 pub enum VectorLength {
     One,
     Four,
 }
 
-#[derive(Drop)]
+#[derive(Clone, Copy)]
 pub enum PduInfo {
     Info { length: u16, vector: u32 },
     Refused(Refusal),

@@ -1,5 +1,7 @@
 // Reads a pattern and behind it a capture on standard input, and tells in a line on standard output each entry that the
 // pattern picks.
+#![tactic(auto)]
+
 ghost use Rattle.std.specs.Prelude.{◌≡◌, ◌≤◌, length};
 ghost use Rattle.refusal.specs.Check.{checked_of};
 ghost use Rattle.name_pattern.specs.Pattern.{pattern_checks};

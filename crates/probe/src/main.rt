@@ -1,5 +1,7 @@
 // Answers each request of a capture in a line, so that the library can be compared with another one: an
 // entry's first byte says what is asked, and the bytes behind it are what it is asked of.
+#![tactic(auto)]
+
 mod address;
 mod picking;
 mod read;

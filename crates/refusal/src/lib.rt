@@ -1,4 +1,6 @@
 // Why a packet is refused: document 01's number, the place it is told at, and the value it carries.
+#![tactic(auto)]
+
 ghost use Rattle.std.specs.Prelude.{◌≡◌};
 ghost use Rattle.refusal.specs.Check.{refusal};
 
@@ -73,7 +75,7 @@ pub const DISCOVERY: u8 = 5;
 pub const UNIVERSE_LIST: u8 = 6;
 
 #[repr(C)]
-#[derive(Drop)]
+#[derive(Clone, Copy)]
 pub struct Refusal {
     pub number: u8,
     pub place: u8,
@@ -82,7 +84,7 @@ pub struct Refusal {
 
 // What is wrong with a datagram: a case for each number that reading tells, from 1 on, and in it which check it is where
 // several have that number. Where one rule is for every layer the place says whose it is.
-#[derive(Drop)]
+#[derive(Clone, Copy)]
 pub enum Reason {
     TooShort(Start),
     NotAllowed(Value),
@@ -104,7 +106,7 @@ pub enum Reason {
 }
 
 // What there are too few bytes for.
-#[derive(Drop)]
+#[derive(Clone, Copy)]
 pub enum Start {
     Preamble,
     Layer,
@@ -112,7 +114,7 @@ pub enum Start {
 }
 
 // A field that has to have a certain value, and the count, which has a limit.
-#[derive(Drop)]
+#[derive(Clone, Copy)]
 pub enum Value {
     PreambleSize,
     PostambleSize,
@@ -124,7 +126,7 @@ pub enum Value {
 }
 
 // Whose vector it is.
-#[derive(Drop)]
+#[derive(Clone, Copy)]
 pub enum VectorIn {
     Root,
     Root2009,
@@ -135,7 +137,7 @@ pub enum VectorIn {
 }
 
 // Whose length it is.
-#[derive(Drop)]
+#[derive(Clone, Copy)]
 pub enum LengthIn {
     Synchronization,
     DiscoveryFraming,
@@ -143,14 +145,14 @@ pub enum LengthIn {
 }
 
 // Whose synchronization address it is.
-#[derive(Drop)]
+#[derive(Clone, Copy)]
 pub enum AddressIn {
     Data,
     Synchronization,
 }
 
 // What a layer is too short for.
-#[derive(Drop)]
+#[derive(Clone, Copy)]
 pub enum Field {
     Cid,
     Name,
@@ -167,21 +169,21 @@ pub enum Field {
 }
 
 // What a length is beyond: the layer's part, or root's whole part.
-#[derive(Drop)]
+#[derive(Clone, Copy)]
 pub enum Room {
     Part,
     Root,
 }
 
 // Which check of a datagram it is, and the byte of the datagram that it is told with.
-#[derive(Drop)]
+#[derive(Clone, Copy)]
 pub struct Identity {
     pub reason: Reason,
     pub byte: usize,
 }
 
 // What a test of something answers where there is nothing to hand back.
-#[derive(Drop)]
+#[derive(Clone, Copy)]
 pub enum Checked {
     Passed,
     Refused(Refusal),

@@ -1,4 +1,6 @@
 // The preamble and the root layer, in both editions.
+#![tactic(auto)]
+
 ghost use Rattle.std.specs.Prelude.{◌≡◌};
 ghost use Rattle.refusal.specs.Check.{refusal, checked_of, preamble as preamble_place};
 ghost use Rattle.root.specs.Root.{preamble_checks, vector_checks, body_of, layer_of, root_of};
@@ -18,7 +20,7 @@ const ACN_PACKET_IDENTIFIER_MIDDLE: u32 = 0x4531_2e31;
 const ACN_PACKET_IDENTIFIER_END: u32 = 0x3700_0000;
 
 // A root layer that is read: its vector, and where it ends, from its own first byte.
-#[derive(Drop)]
+#[derive(Clone, Copy)]
 pub enum Root {
     Layer { vector: u32, end: usize },
     Refused(Refusal),

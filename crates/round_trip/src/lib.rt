@@ -1,5 +1,7 @@
 // There and back in code: a packet is written into the buffer, and the buffer is read as it is then. `answer` and `bytes` say what is
 // answered and left on every input, `returned` what was demanded: a record within the readable limits comes back.
+#![tactic(auto)]
+
 mod of_2009;
 
 ghost use Rattle.std.specs.Prelude.{◌≡◌, ◌++◌, ◌≤◌, length, drop};

@@ -1,4 +1,6 @@
 // Sequence numbers have eight bits and wrap. How far one is from another, and whether it comes too late.
+#![tactic(auto)]
+
 ghost use Rattle.std.specs.Prelude.{◌≡◌};
 ghost use Rattle.sequence.specs.Sequence.{signed_of, difference_of, late_of};
 

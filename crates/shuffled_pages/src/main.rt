@@ -1,5 +1,7 @@
 // Whole lists of universes, written page by page and collected again: what came out of pages that were shuffled and
 // repeated, with pages of another desk between; of pages that other writers cut; and what is refused.
+#![tactic(auto)]
+
 mod foreign;
 mod refused;
 mod shuffled;

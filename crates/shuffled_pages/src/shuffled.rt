@@ -12,7 +12,7 @@ const FIRST: usize = 3;
 
 // How many pages were kept, how often all were there, how many of another desk were refused; and how many universes the
 // last list had.
-#[derive(Drop)]
+#[derive(Clone, Copy)]
 struct Tally {
     kept: u64,
     lists: u64,
@@ -73,7 +73,7 @@ fn same(sent: &[u16], list: &[u16]) -> bool {
     true
 }
 
-#[derive(Drop)]
+#[derive(Clone, Copy)]
 struct Standing {
     collector: Collector,
     tally: Tally,

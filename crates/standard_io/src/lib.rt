@@ -1,11 +1,13 @@
 // Reads from standard input and writes to standard output. The kit's contracts say how many bytes a call may have moved; that a
 // call was made no contract can say. So what the system answered stands in values that only this crate can make, each
 // from the one before it, with a count of all bytes so far.
+#![tactic(auto)]
+
 ghost use Rattle.std.specs.Prelude.{◌≡◌, ◌+◌, ◌<◌, length, take};
 ghost use Rattle.standard_io.specs.System.{counted, said_of, reached_by, is_error, Arrived, nothing_heard, quiet_after, heard_after, nothing_written, kept_after};
 
 // To a read: so many bytes are in the block now, the input ends, or an error. Nothing is said where none was made.
-#[derive(Drop)]
+#[derive(Clone, Copy)]
 pub enum Said {
     Nothing,
     Bytes { len: usize },
@@ -14,14 +16,14 @@ pub enum Said {
 }
 
 // What the system said to the last read, and how many bytes all reads brought.
-#[derive(Drop)]
+#[derive(Clone, Copy)]
 pub struct Heard {
     said: Said,
     total: u64,
 }
 
 // Whether the system took all bytes of the last text, and how many bytes it was handed in all.
-#[derive(Drop)]
+#[derive(Clone, Copy)]
 pub struct Wrote {
     all: bool,
     total: u64,

@@ -1,5 +1,7 @@
 // Text put into a lent buffer: words, numbers in decimal, bytes in hex. Every call takes every place: what
 // runs past the end is left out, and the next place is then the end.
+#![tactic(auto)]
+
 ghost use Rattle.std.specs.Prelude.{◌≡◌, ◌++◌, ◌+◌, ◌<◌, min, length, drop};
 ghost use Rattle.text.specs.Put.{Put};
 ghost use Rattle.text.specs.Digits.{decimal, hex_digit, hex_byte, hex};

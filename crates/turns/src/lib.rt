@@ -1,5 +1,7 @@
 // What every program over a capture does between two entries: it takes the next one, writes text where the next line
 // might not fit behind it, and puts the last line. What is added is the text of an entry, and a loop over these calls.
+#![tactic(auto)]
+
 ghost use Rattle.std.specs.Prelude.{◌≡◌, ◌-◌, min, length};
 ghost use Rattle.text.specs.Put.{Put};
 ghost use Rattle.standard_io.specs.System.{counted};
@@ -18,7 +20,7 @@ pub const BLOCK: usize = 65536;
 pub const LINE_ROOM: usize = 40000;
 
 // Between two entries. Text that is not written yet takes up the first `at` bytes of its buffer.
-#[derive(Drop)]
+#[derive(Clone, Copy)]
 pub struct State {
     pub unread: Unread,
     pub at: usize,
@@ -28,7 +30,7 @@ pub struct State {
 }
 
 // What comes next in the capture, and the state once it is taken.
-#[derive(Drop)]
+#[derive(Clone, Copy)]
 pub struct Found {
     pub next: Next,
     pub state: State,

@@ -1,4 +1,6 @@
 // Which universes have a multicast address, and which address that is.
+#![tactic(auto)]
+
 ghost use Rattle.std.specs.Prelude.{◌≡◌};
 ghost use Rattle.refusal.specs.Check.{checked_of};
 ghost use Rattle.universe.specs.Universe.{universe_checks, multicast_of};
@@ -11,7 +13,7 @@ use wire::constants::{
 
 // Four bytes of an IPv4 address, highest first, and a port.
 #[repr(C)]
-#[derive(Drop)]
+#[derive(Clone, Copy)]
 pub struct Ipv4Address {
     pub highest: u8,
     pub second: u8,
@@ -20,7 +22,7 @@ pub struct Ipv4Address {
     pub port: u16,
 }
 
-#[derive(Drop)]
+#[derive(Clone, Copy)]
 pub enum Multicast {
     Address(Ipv4Address),
     Refused(Refusal),

@@ -1,5 +1,7 @@
 // A whole list of universes, written page by page. The whole list is judged for each page, so that no page of a list
 // with a fault is ever sent.
+#![tactic(auto)]
+
 ghost use Rattle.std.specs.Prelude.{◌≡◌, ◌+◌, length};
 ghost use Rattle.refusal.specs.Check.{checked_of};
 ghost use Rattle.discovery.specs.Universes.{order_checks};

@@ -1,12 +1,14 @@
 // A viewer keeps the lent datagram beside the spans found in it, so that nobody shows the parts of one datagram by
 // the spans of another. Its calls are thin: `parts` finds the spans and says what is shown.
+#![tactic(auto)]
+
 ghost use Rattle.std.specs.Prelude.{◌≡◌};
 ghost use Rattle.packet.specs.Packet.{packet_of};
 ghost use Rattle.parts.specs.Parts.{shown_at, name_span, values_span};
 
 use packet::Span;
 
-#[derive(Drop)]
+#[derive(Clone, Copy)]
 pub struct Viewer<'a> {
     datagram: &'a [u8],
     name: Span,

@@ -1,5 +1,7 @@
 // What is read of a handful of datagrams: a line with the case, the kind and the CID, one with the plain fields, and
 // one with the name and the values as a viewer shows them.
+#![tactic(auto)]
+
 use discovery::DiscoveryFields;
 use extended::synchronization::SynchronizationFields;
 use framing::DataFields;

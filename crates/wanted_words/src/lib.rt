@@ -1,4 +1,6 @@
 // What was wanted of a datagram, in words: by them the checks of one number differ.
+#![tactic(auto)]
+
 ghost use Rattle.text.specs.Put.{Put};
 ghost use Rattle.wanted_words.specs.Words.{start_words, value_words, vector_words, length_words, address_words, field_words, room_words, wanted_words};
 

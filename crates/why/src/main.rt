@@ -1,4 +1,6 @@
 // Reads a capture on standard input, and tells of each entry in words what both readers find.
+#![tactic(auto)]
+
 ghost use Rattle.turns.specs.Run.{beginning, Ran};
 ghost use Rattle.why.specs.Why.{telling};
 

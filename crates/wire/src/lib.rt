@@ -1,5 +1,7 @@
 // Big-endian numbers and runs of bytes in a lent slice. Every call takes every place: a byte past the end
 // reads as zero, and is not written.
+#![tactic(auto)]
+
 pub mod constants;
 pub mod layout;
 

@@ -1,4 +1,6 @@
 // Packets as the writers put them: a line for each case with the answer, and then the whole buffer, filled with ee before the call.
+#![tactic(auto)]
+
 ghost use Rattle.std.specs.Prelude.{◌≡◌, length};
 
 use discovery::DiscoveryFields;

@@ -1,4 +1,6 @@
 // What is wrong with a datagram, in words for people who have not read document 01: the layer, and the sentence of a refusal's number.
+#![tactic(auto)]
+
 ghost use Rattle.text.specs.Put.{Put};
 ghost use Rattle.wrong_words.specs.Words.{layer_words, wrong_words};
 

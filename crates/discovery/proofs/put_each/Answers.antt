@@ -1,0 +1,36 @@
+use Prim.Native.Nat.{ℕ, ◌+◌, ◌-◌, ◌*◌, ◌≤◌, ◌<◌}
+use mathlib.Core.List.{List}
+use mathlib.Core.Path.{refl, sym, ap, ◌∙◌}
+use native.Mathlib.Omega.{arith}
+use lib.ListN.{length, get_or}
+use lib.Seq.{sets, take_all}
+use Rattle.wire.specs.Fields.{be16}
+use Rattle.wire.proofs.Laws.{sets_past}
+use Rattle.discovery.specs.Universes.{universe_bytes}
+use Rattle.discovery.proofs.Laws.{bytes_more}
+use Rattle.discovery.proofs.put_each.Goals as goal
+
+pub returns-then-buf-at : goal.returns-then-buf-at
+returns-then-buf-at c = let a = c.args in
+    sym (sets_past (universe_bytes a.universes.now) a.buf.now a.at (omega arith))
+
+pub loop-i-init : goal.loop-i-init
+unfolding universe_bytes
+loop-i-init c = (omega arith, refl, refl)
+
+pub loop-i-preserved : goal.loop-i-preserved
+loop-i-preserved c = let a = c.args in
+    let us = a.universes.now in
+    let i = c.loop-i.i in
+    let k : i < length us = omega arith in (
+      omega arith,
+      omega arith,
+      c.put_u16.ensures
+          ∙ ap (λ (b : List ℕ). sets b (a.at + 2 * i) (be16 (get_or us i 0))) c.loop-i.invariant.2
+          ∙ sym (bytes_more us a.buf.now a.at i k),
+    )
+
+pub returns : goal.returns
+returns c = let a = c.args in
+    let k : length a.universes.now ≤ c.loop-i.i = omega arith in
+    c.loop-i.invariant.2 ∙ ap (λ (us : List ℕ). sets a.buf.now a.at (universe_bytes us)) (take_all c.loop-i.i a.universes.now k)
