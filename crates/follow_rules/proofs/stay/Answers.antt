@@ -1,0 +1,4 @@
+use Rattle.follow_rules.proofs.stay.Goals as goal
+
+pub returns : goal.returns
+returns c = rw c.free.ensures

@@ -1,0 +1,12 @@
+use mathlib.Core.List.{append_assoc}
+use Rattle.text.proofs.Puts.{put_then, put_last, put_as}
+use Rattle.line.specs.Lines.{data_line}
+use Rattle.line.proofs.put_data.Goals as goal
+
+pub returns : goal.returns
+unfolding data_line
+returns c =
+    put_as
+    (put_then c.put_named-next.ensures
+    (put_then c.put_data_fields-next.ensures (put_then c.put_field-next.ensures (put_last c.put.ensures))))
+    (simp append_assoc)

@@ -1,0 +1,9 @@
+use Rattle.text.proofs.Puts.{put_then, put_last}
+use Rattle.line.specs.Lines.{synchronization_line}
+use Rattle.line.proofs.put_synchronization.Goals as goal
+
+pub returns : goal.returns
+unfolding synchronization_line
+returns c =
+    put_then c.put_decimal-next.ensures
+    (put_then c.put-next.ensures (put_then c.put_synchronization_fields-next.ensures (put_last c.put.ensures)))

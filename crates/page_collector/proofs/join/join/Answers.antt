@@ -1,0 +1,10 @@
+use Prim.Native.Nat.{◌-◌}
+use mathlib.Core.Path.{◌≡◌}
+use native.Mathlib.Omega.{arith}
+use Rattle.page_collector.proofs.join.join.Goals as goal
+
+pub returns : goal.returns
+returns c = let pages = c.args.pages in
+    let first : pages - 0 ≡ pages = omega arith in
+    let both = rw first at c.join_pages.ensures in
+    record { answer = both.0; list = both.1 }
