@@ -6,7 +6,7 @@ use Rattle.refusal.specs.Check.{Test, root, ◌≤?◌, ◌=?◌, ◌≠?◌, �
 use Rattle.refusal.specs.declared.Reason.{Reason}
 use Rattle.refusal.specs.declared.Reason.TheVariants as why
 use Rattle.refusal.specs.declared.Start.{Start}
-use Rattle.refusal.specs.declared.Start.TheVariants as start_of_lem
+use Rattle.refusal.specs.declared.Start.TheVariants as start_in
 use Rattle.refusal.specs.declared.Value.{Value}
 use Rattle.refusal.specs.declared.Value.TheVariants as value_of_lem
 use Rattle.refusal.specs.declared.VectorIn.{VectorIn}
@@ -24,9 +24,9 @@ use Rattle.finding_text.specs.Numbers.{length_at, room_at, head_at}
 
 -- too few bytes for the start of something; a list of universes always has them
 abbrev pub no_start : Start → List ℕ → ℕ → Test
-no_start start_of_lem.Preamble d place = length d ≤? 15
-no_start start_of_lem.Layer d place = room_at d place + 1 ≤? head_at place
-no_start start_of_lem.Universes d place = 1 ≤? 0
+no_start start_in.Preamble d place = length d ≤? 15
+no_start start_in.Layer d place = room_at d place + 1 ≤? head_at place
+no_start start_in.Universes d place = 1 ≤? 0
 
 abbrev pub wrong_value : Value → List ℕ → Test
 wrong_value value_of_lem.PreambleSize d = u16_at d 0 ≠? 16

@@ -3,7 +3,7 @@ use Rattle.std.specs.Prelude.{ℕ, zero, suc, ◌+◌, ◌*◌, ◌/◌, List, [
 use Rattle.wire.specs.Fields.{u16_at, be16}
 use Rattle.refusal.specs.Check.{Check, check, Numbered, numbered, refusal, universe_list, nowhere, ◌≤?◌, ◌≠?◌, checked_of}
 use Rattle.refusal.specs.declared.Reason.TheVariants as why
-use Rattle.refusal.specs.declared.Start.TheVariants as start_of_lem
+use Rattle.refusal.specs.declared.Start.TheVariants as start_in
 use Rattle.refusal.specs.declared.Checked.{Checked}
 
 -- the first n numbers of two bytes
@@ -36,7 +36,7 @@ told_from i (c ∷ cs) = check c.test c.otherwise why.Order i ∷ told_from (i +
 -- 1 if the part is shorter than its count needs; 12
 abbrev pub list_checks : List ℕ → ℕ → List Check
 list_checks p count =
-    check (2 * count ≤? length p) (refusal 1 universe_list 0) (why.TooShort start_of_lem.Universes) 0
+    check (2 * count ≤? length p) (refusal 1 universe_list 0) (why.TooShort start_in.Universes) 0
     ∷ told_from 2 (pairs ascends (universes count p))
 
 -- at writing, 25: equal neighbours; 26: falling ones

@@ -5,12 +5,12 @@ use mathlib.Core.Bool.{Bool, true, false}
 use mathlib.Core.List.{List, [], ◌∷◌, ◌++◌}
 use native.Mathlib.Omega.{arith}
 use lib.ListN.{length}
-use Rattle.refusal.specs.Check.{Test, Check, outcome, pick, framing, discovery, ◌=?◌, ◌≠?◌, ◌or◌}
+use Rattle.refusal.specs.Check.{Test, Check, check, refusal, outcome, pick, framing, discovery, universe_list, ◌≤?◌, ◌=?◌, ◌≠?◌, ◌or◌}
 use Rattle.refusal.specs.declared.Identity.{Identity}
 use Rattle.refusal.specs.declared.Reason.{Reason}
 use Rattle.refusal.specs.declared.Reason.TheVariants as why
 use Rattle.refusal.specs.declared.Start.{Start}
-use Rattle.refusal.specs.declared.Start.TheVariants as start_of_lem
+use Rattle.refusal.specs.declared.Start.TheVariants as start_in
 use Rattle.refusal.specs.declared.Value.{Value}
 use Rattle.refusal.specs.declared.Value.TheVariants as value_of_lem
 use Rattle.refusal.specs.declared.VectorIn.{VectorIn}
@@ -52,9 +52,9 @@ NoTwo (c ∷ cs) = None c cs × NoTwo cs
 
 -- A number for each reason, so that it is computed that two differ.
 abbrev start_code : Start → ℕ
-start_code start_of_lem.Preamble = 0
-start_code start_of_lem.Layer = 1
-start_code start_of_lem.Universes = 2
+start_code start_in.Preamble = 0
+start_code start_in.Layer = 1
+start_code start_in.Universes = 2
 
 abbrev value_code : Value → ℕ
 value_code value_of_lem.PreambleSize = 0
@@ -167,7 +167,7 @@ later c i u (v ∷ us) h =
 
 rising : (i u : ℕ) (us : List ℕ) → NoTwo (told_from i (pairs_from ascends u us))
 rising i u [] = tt
-rising i u (v ∷ us) = (later _ (i + 2) v us (omega arith), rising (i + 2) v us)
+rising i u (v ∷ us) = (later (check (u + 1 ≤? v) (refusal 12 universe_list v) why.Order i) (i + 2) v us (omega arith), rising (i + 2) v us)
 
 with_order : (cs : List Check) (i u : ℕ) (us : List ℕ) → NoTwo cs → orderless cs ≡ true → NoTwo (cs ++ told_from i (pairs_from ascends u us))
 with_order [] i u us n e = rising i u us

@@ -8,7 +8,7 @@ use Rattle.wire.specs.Fields.{u16_at}
 use Rattle.wire.proofs.Laws.{drop_more}
 use Rattle.refusal.specs.declared.Refusal.{Refusal}
 use Rattle.refusal.specs.declared.Reason.TheVariants as why
-use Rattle.refusal.specs.declared.Start.TheVariants as start_of_lem
+use Rattle.refusal.specs.declared.Start.TheVariants as start_in
 use Rattle.refusal.specs.Check.{Check, check, refusal, universe_list, ◌≤?◌, checked_of, reading}
 use Rattle.discovery.specs.Universes.{universes, pairs, pairs_from, ascends, told_from, list_checks}
 use Rattle.discovery.proofs.Laws.{universes_length, universes_at}
@@ -34,7 +34,7 @@ pub from_first : (list : List ℕ) (u : ℕ) → u ≡ u16_at list 0 → AsFrom 
 from_first list u e =
     let n = length list / 2 in
     let us = universes n list in
-    let c : Check = check (2 * n ≤? length list) (refusal 1 universe_list 0) (why.TooShort start_of_lem.Universes) 0 in
+    let c : Check = check (2 * n ≤? length list) (refusal 1 universe_list 0) (why.TooShort start_in.Universes) 0 in
     let fits : 2 * n ≤ length list = omega arith in
     let same : pairs ascends us ≡ pairs_from ascends u (drop 1 us) =
     first us u (λ some. universes_at n list 0 (omega (arith, universes_length n list)) ∙ sym e) in

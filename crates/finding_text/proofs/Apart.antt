@@ -7,7 +7,7 @@ use lib.Dec.{eqb}
 use Rattle.refusal.specs.Check.{pick}
 use Rattle.refusal.specs.declared.Reason.{Reason}
 use Rattle.refusal.specs.declared.Reason.TheVariants as why
-use Rattle.refusal.specs.declared.Start.TheVariants as start_of_lem
+use Rattle.refusal.specs.declared.Start.TheVariants as start_in
 use Rattle.refusal.specs.declared.Value.TheVariants as value_of_lem
 use Rattle.refusal.specs.declared.VectorIn.TheVariants as vector-in
 use Rattle.refusal.specs.declared.LengthIn.TheVariants as length-in
@@ -34,9 +34,9 @@ reason_of (r ∷ rs) text = pick (same text (words r)) r (reason_of rs text)
 
 every_reason : List Reason
 every_reason =
-    (why.TooShort start_of_lem.Preamble)
-    ∷ (why.TooShort start_of_lem.Layer)
-    ∷ (why.TooShort start_of_lem.Universes)
+    (why.TooShort start_in.Preamble)
+    ∷ (why.TooShort start_in.Layer)
+    ∷ (why.TooShort start_in.Universes)
     ∷ (why.NotAllowed value_of_lem.PreambleSize)
     ∷ (why.NotAllowed value_of_lem.PostambleSize)
     ∷ (why.NotAllowed value_of_lem.Identifier)
@@ -84,9 +84,9 @@ every_reason =
 -- a check is found by its words
 found_again : (r : Reason) → reason_of every_reason (words r) ≡ r
 unfolding reason_of every_reason wrong_words wanted_words start_words value_words vector_words length_words address_words field_words room_words
-found_again (why.TooShort start_of_lem.Preamble) = refl
-found_again (why.TooShort start_of_lem.Layer) = refl
-found_again (why.TooShort start_of_lem.Universes) = refl
+found_again (why.TooShort start_in.Preamble) = refl
+found_again (why.TooShort start_in.Layer) = refl
+found_again (why.TooShort start_in.Universes) = refl
 found_again (why.NotAllowed value_of_lem.PreambleSize) = refl
 found_again (why.NotAllowed value_of_lem.PostambleSize) = refl
 found_again (why.NotAllowed value_of_lem.Identifier) = refl

@@ -5,7 +5,7 @@ use Rattle.refusal.specs.Check.{pick, start_of, preamble, root, framing, dmp}
 use Rattle.refusal.specs.declared.Reason.{Reason}
 use Rattle.refusal.specs.declared.Reason.TheVariants as why
 use Rattle.refusal.specs.declared.Start.{Start}
-use Rattle.refusal.specs.declared.Start.TheVariants as start_of_lem
+use Rattle.refusal.specs.declared.Start.TheVariants as start_in
 use Rattle.refusal.specs.declared.Value.{Value}
 use Rattle.refusal.specs.declared.Value.TheVariants as value_of_lem
 use Rattle.refusal.specs.declared.Field.{Field}
@@ -48,9 +48,9 @@ shown_of source.Head d f = shown.Number (head_at f.refusal.place)
 
 -- what was there
 abbrev pub found_start : Start → Source
-found_start start_of_lem.Preamble = source.Room
-found_start start_of_lem.Layer = source.Room
-found_start start_of_lem.Universes = source.Nowhere
+found_start start_in.Preamble = source.Room
+found_start start_in.Layer = source.Room
+found_start start_in.Universes = source.Nowhere
 
 abbrev pub found_value : Value → Source
 found_value value_of_lem.PreambleSize = source.Word
@@ -96,9 +96,9 @@ found why.NoStartCode = source.Word
 
 -- what was wanted, where the words leave it open
 abbrev pub limit_start : Start → Source
-limit_start start_of_lem.Preamble = source.Nowhere
-limit_start start_of_lem.Layer = source.Head
-limit_start start_of_lem.Universes = source.Nowhere
+limit_start start_in.Preamble = source.Nowhere
+limit_start start_in.Layer = source.Head
+limit_start start_in.Universes = source.Nowhere
 
 abbrev pub limit_room : Room → Source
 limit_room room_in.Part = source.Room

@@ -3,7 +3,7 @@ use Rattle.std.specs.Prelude.{ℕ, ◌+◌, ◌*◌, ◌/◌, ◌%◌, List, [],
 use Rattle.wire.specs.Fields.{byte_at, u16_at, u32_at, be16, be32, join}
 use Rattle.refusal.specs.Check.{Check, check, refusal, ◌≤?◌, ◌=?◌, reading}
 use Rattle.refusal.specs.declared.Reason.TheVariants as why
-use Rattle.refusal.specs.declared.Start.TheVariants as start_of_lem
+use Rattle.refusal.specs.declared.Start.TheVariants as start_in
 use Rattle.pdu.specs.declared.PduInfo.{PduInfo}
 use Rattle.pdu.specs.declared.PduInfo.TheVariants.{Info, Refused}
 use Rattle.pdu.specs.declared.VectorLength.{VectorLength}
@@ -27,7 +27,7 @@ vector_of Four p = u32_at p 2
 -- every layer starts: 1 if its part cannot hold flags and vector; 3
 abbrev pub head_checks : VectorLength → ℕ → List ℕ → List Check
 head_checks n place p =
-    check (2 + size_of n ≤? length p) (refusal 1 place 0) (why.TooShort start_of_lem.Layer) 0
+    check (2 + size_of n ≤? length p) (refusal 1 place 0) (why.TooShort start_in.Layer) 0
     ∷ check (flags_of p =? 0x70) (refusal 3 place (flags_of p)) why.Flags 0
     ∷ []
 

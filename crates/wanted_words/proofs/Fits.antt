@@ -5,7 +5,7 @@ use native.Mathlib.Omega.{arith}
 use Rattle.refusal.specs.declared.Reason.{Reason}
 use Rattle.refusal.specs.declared.Reason.TheVariants as why
 use Rattle.refusal.specs.declared.Start.{Start}
-use Rattle.refusal.specs.declared.Start.TheVariants as start_of_lem
+use Rattle.refusal.specs.declared.Start.TheVariants as start_in
 use Rattle.refusal.specs.declared.Value.{Value}
 use Rattle.refusal.specs.declared.Value.TheVariants as value_of_lem
 use Rattle.refusal.specs.declared.VectorIn.{VectorIn}
@@ -22,9 +22,9 @@ use Rattle.wanted_words.specs.Words.{start_words, value_words, vector_words, len
 
 starts_fit : (x : Start) → length (start_words x) ≤ 50
 unfolding start_words
-starts_fit start_of_lem.Preamble = omega arith
-starts_fit start_of_lem.Layer = omega arith
-starts_fit start_of_lem.Universes = omega arith
+starts_fit start_in.Preamble = omega arith
+starts_fit start_in.Layer = omega arith
+starts_fit start_in.Universes = omega arith
 
 values_fit : (x : Value) → length (value_words x) ≤ 50
 unfolding value_words

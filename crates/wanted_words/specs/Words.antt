@@ -3,7 +3,7 @@ use Rattle.std.specs.Prelude.{ℕ, List}
 use Rattle.refusal.specs.declared.Reason.{Reason}
 use Rattle.refusal.specs.declared.Reason.TheVariants as why
 use Rattle.refusal.specs.declared.Start.{Start}
-use Rattle.refusal.specs.declared.Start.TheVariants as start_of_lem
+use Rattle.refusal.specs.declared.Start.TheVariants as start_in
 use Rattle.refusal.specs.declared.Value.{Value}
 use Rattle.refusal.specs.declared.Value.TheVariants as value_of_lem
 use Rattle.refusal.specs.declared.VectorIn.{VectorIn}
@@ -20,9 +20,9 @@ use Rattle.text.specs.Digits.{ascii}
 
 -- what was wanted, and for what
 unfoldable pub start_words : Start → List ℕ
-start_words start_of_lem.Preamble = ascii "16 for the preamble"
-start_words start_of_lem.Layer = ascii "for flags, length and vector "
-start_words start_of_lem.Universes = ascii "the universes"
+start_words start_in.Preamble = ascii "16 for the preamble"
+start_words start_in.Layer = ascii "for flags, length and vector "
+start_words start_in.Universes = ascii "the universes"
 
 unfoldable pub value_words : Value → List ℕ
 value_words value_of_lem.PreambleSize = ascii "preamble size 16"

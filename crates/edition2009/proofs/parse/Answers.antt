@@ -12,7 +12,7 @@ use Rattle.edition2009.proofs.parse.Goals as goal
 
 pub returns-in-Refused : goal.returns-in-Refused
 unfolding reading2009_of
-returns-in-Refused c = by_answer (with_cid2009 _) (packet2009_of _) (Refused _) (sym c.parse_packet.ensures ∙ c.in-Refused.is) refl
+returns-in-Refused c = by_answer (with_cid2009 c.args.datagram.now) (packet2009_of c.args.datagram.now) (Refused _) (sym c.parse_packet.ensures ∙ c.in-Refused.is) refl
 
 -- a data packet, beside the CID that was copied
 beside : (d cid : List ℕ) (x : DataRecord2009) → packet2009_of d ≡ Data x → cid ≡ cid_in d → record { cid = cid; packet = Data x } ≡ reading2009_of d

@@ -25,10 +25,10 @@ by-layer p =
     inner (after p) layer.Refused Refused (data_checks E2009 p) (layer_of p (length_of p)) (Data (data_record2009 p)) (λ r. refl) refl
 
 pub returns-in-Refused : goal.returns-in-Refused
-returns-in-Refused c = by_answer (after _) (data_of _ _) (layer.Refused _) (sym c.parse.ensures ∙ c.in-Refused.is) refl ∙ sym (by-layer _)
+returns-in-Refused c = by_answer (after c.args.p.now) (data_of _ c.args.p.now) (layer.Refused _) (sym c.parse.ensures ∙ c.in-Refused.is) refl ∙ sym (by-layer _)
 
 pub returns-in-Layer : goal.returns-in-Layer
 returns-in-Layer c =
-    by_answer (after _) (data_of _ _) (layer.Layer c.in-Layer.name c.in-Layer.values) (sym c.parse.ensures ∙ c.in-Layer.is)
+    by_answer (after c.args.p.now) (data_of _ c.args.p.now) (layer.Layer c.in-Layer.name c.in-Layer.values) (sym c.parse.ensures ∙ c.in-Layer.is)
     (ap (λ (f : DataFields2009). Data (record { fields = f; name = span 44 c.in-Layer.name; values = span 125 c.in-Layer.values })) c.fields.ensures)
     ∙ sym (by-layer _)

@@ -45,7 +45,7 @@ slice_bounds-parse_data-end c = let datagram : List ℕ = c.args.datagram.now in
     omega (arith, inside)
 
 pub returns-in-Refused : goal.returns-in-Refused
-returns-in-Refused c = by_answer (after_root _) (root_of _ _) (layer.Refused _) (sym c.parse.ensures ∙ c.in-Refused.is) refl ∙ sym (by_root _)
+returns-in-Refused c = by_answer (after_root c.args.datagram.now) (root_of _ c.args.datagram.now) (layer.Refused _) (sym c.parse.ensures ∙ c.in-Refused.is) refl ∙ sym (by_root _)
 
 pub returns-in-Layer : goal.returns-in-Layer
 returns-in-Layer c = let datagram : List ℕ = c.args.datagram.now in

@@ -117,7 +117,7 @@ returns-6 c = ap shown.Number (c.u16-at2.ensures ∙ ap (u16_at _) c.before.left
 
 returns-7 : tie.Need-returns-7
 unfolding shown_of
-returns-7 c = ap shown.Number (c.length_at.ensures ∙ ap (length_at _) c.before.start_of_lem.ensures) ∙ by-source c.before.before.before.before source.Length c.before.before.enum-told7.given.1
+returns-7 c = ap shown.Number (c.length_at.ensures ∙ ap (length_at _) c.before.start_in.ensures) ∙ by-source c.before.before.before.before source.Length c.before.before.enum-told7.given.1
 
 returns-8 : tie.Need-returns-8
 unfolding shown_of

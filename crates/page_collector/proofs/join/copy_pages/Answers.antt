@@ -11,9 +11,6 @@ use Rattle.page_collector.proofs.join.copy_pages.Goals as goal
 pub loop-k-init : goal.loop-k-init
 loop-k-init c = (omega arith, omega arith, refl, omega arith, refl)
 
-pub count_at-count-requires : goal.count_at-count-requires
-count_at-count-requires c = record { holds = c.pre.0; k_in_bounds = omega arith }
-
 pub loop-k-preserved : goal.loop-k-preserved
 loop-k-preserved c = let cs = c.args.counts.now in
     let m = c.args.memory.now in
@@ -22,7 +19,7 @@ loop-k-preserved c = let cs = c.args.counts.now in
     let n = c.count_at-count.result in
     let page = page_at cs m k in
     let inside : k < length cs = omega (arith, c.loop-k-test) in
-    let long : length page ≡ n = page_length_lem cs m k n c.count_at-count.ensures.count c.count_at-count.ensures.few (omega (arith, inside, c.requires.1.0)) in
+    let long : length page ≡ n = page_length_lem cs m k n c.count_at-count.ensures.count c.count_at-count.ensures.few (omega (arith, inside, c.requires.counts_in_bounds)) in
     let size : 512 * k + n - 512 * k ≡ get_or cs k 0 - 1 = omega (arith, c.count_at-count.ensures.count) in
     let put = lent_rest page c.loop-k.list at (c.copy_run.ensures ∙ ap (λ (i : ℕ). sets (take (length c.loop-k.list - at) (drop at c.loop-k.list)) 0 (take i (drop (512 * k) m))) size) in
     let rest = left cs m (k + 1) in (

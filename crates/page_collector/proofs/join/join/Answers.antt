@@ -4,7 +4,7 @@ use native.Mathlib.Omega.{arith}
 use Rattle.page_collector.proofs.join.join.Goals as goal
 
 pub returns : goal.returns
-returns c = let pages = c.args.pages in
-    let first : pages - 0 ≡ pages = omega arith in
+returns c =
+    let first : c.args.pages - 0 ≡ c.args.pages = omega arith in
     let both = rw first at c.join_pages.ensures in
-    record { answer = both.0; list = both.1 }
+    record { answer = both.answer; list = both.list }
