@@ -1,6 +1,7 @@
 # What the scripts of this folder share. Sourced by bash; needs `here`, this folder.
 
 root=$(cd "$here/.." && pwd -P)
+. "$root/build.sh"
 build=${COMPARE_BUILD:-$root/target/compare}
 program=$(basename "$0")
 
@@ -20,7 +21,8 @@ install_packages() { # PACKAGE...
     apt-get update >&2 && apt-get install -y --no-install-recommends "${missing[@]}" >&2
 }
 
-# Copies our projects to the build folder, where cargo may write, and sets the words for cargo.
+# Copies our projects to the build folder, where cargo may write, and sets the words for cargo; `rust` is the folder
+# of the programs that it builds for release.
 prepare_rust() { # SOURCES
     local f
     for f in packet.rs error.rs sacn_parse_pack_error.rs receive.rs; do
@@ -40,38 +42,46 @@ prepare_rust() { # SOURCES
     [ -d "$registry" ] || die "librust-byteorder-dev has no folder of sources"
     cargo_words=(--offline --config 'source.crates-io.replace-with="debian"'
         --config "source.debian.directory=\"$registry\"")
+    rust=$build/rust/release
     project=$build/project/compare
     mkdir -p "$project" "$build/project/rust"
     cp -Rp "$here/Cargo.toml" "$here/sacn" "$here/judge" "$here/edge-speed" "$project/"
     cp -Rp "$root/rust/Cargo.toml" "$root/rust/build.rs" "$root/rust/src" "$build/project/rust/"
 }
 
-# Builds our Rust programs for this machine; `rust` is their folder.
+# Has cargo do something in a folder.
+run_cargo() { # FOLDER COMMAND WORDS...
+    (cd "$1" && cargo "${cargo_words[@]}" "$2" --target-dir "$build/rust" "${@:3}")
+}
+
+# Builds our Rust programs that link no Rattle code.
 build_rust() { # SOURCES
     prepare_rust "$1"
-    (cd "$project" && cargo "${cargo_words[@]}" build --release --target-dir "$build/rust") ||
-        die "the Rust side was not built"
-    rust=$build/rust/release
+    run_cargo "$project" build --release || die "the Rust side was not built"
 }
 
-# Has rt prove and build Rattle crates, and sets `start`, the words that start an x86-64 program.
-run_rt() { # COMMAND NAME...
-    local name
-    for name in "${@:2}"; do
-        [ -d "$root/crates/$name" ] || die "the repository has no crates/$name"
-    done
-    command -v rt >/dev/null || die "rt, the toolchain's command, is needed"
-    (cd "$root" && rt "$@") >&2 || die "the Rattle side was not proved"
-    . "$root/start.sh"
+need_rt() {
+    command -v rt >/dev/null || die "rt, the command of the Rattle kit, is needed"
 }
 
-# Proves and builds the Rattle programs.
+# Proves and builds the Rattle programs, as crates/NAME/out/NAME.
 build_rattle() { # NAME...
-    run_rt check "$@"
+    local name
+    need_rt
+    for name in "$@"; do
+        [ -d "$root/crates/$name" ] || die "the repository has no crates/$name"
+        build_program "$name" || die "$name was not proved, or did not print what crates/$name/stdout has"
+    done
 }
 
 # Proves and builds what Rust and C link, and says where it is.
 build_archive() {
-    run_rt staticlib ledgerwren
+    need_rt
+    "$root/staticlib" || die "the Rattle side was not proved"
     export LEDGERWREN_LIB_DIR=$root/target/staticlib
+}
+
+# Says on what machine something is timed, and by which compiler the Rust was built.
+tell_machine() { # WHAT
+    echo "This machine is $(uname -m): $1 run on its processor, the Rust by $(rustc --version), opt-level 3."
 }

@@ -44,15 +44,14 @@ fn fault(archive: &Path) -> Option<String> {
     if told("CARGO_CFG_TARGET_ARCH") != "x86_64" || told("CARGO_CFG_TARGET_OS") != "linux" {
         return Some(format!(
             "{ARCHIVE} is x86-64 code for Linux and cannot be linked for {}: build with \
-             `--target x86_64-unknown-linux-gnu`; on an Arm machine compare/edge does that, and runs it \
-             under the toolchain's emulator",
+             `--target x86_64-unknown-linux-gnu`",
             told("TARGET")
         ));
     }
     if !archive.is_file() {
         return Some(format!(
-            "{} is missing: run `rt staticlib ledgerwren` at the root of the repository, or name its \
-             folder in {FOLDER}",
+            "{} is missing: run `./staticlib` at the root of the repository, or name its folder in \
+             {FOLDER}",
             archive.display()
         ));
     }

@@ -1,6 +1,6 @@
 /*
  * E1.31 (streaming ACN) packets, read and written by proved code: what C calls.
- * Link libledgerwren.a, x86-64 code for Linux, which `rt staticlib ledgerwren` makes.
+ * Link libledgerwren.a, x86-64 code for Linux, which `./staticlib` makes.
  *
  * The number in the names of the calls is the version of this layout. It moves whenever a struct or a
  * call changes, so that code compiled against another layout does not link.

@@ -3,7 +3,7 @@
 //!
 //! Taken on trust here, and nowhere else:
 //!
-//! - The declarations are those of `crates/ledgerwren/src/lib.rt` and of the structs that it names,
+//! - The declarations are those of `crates/ledgerwren_c/src/lib.rt` and of the structs that it names,
 //!   most in `crates/c_answers/src/lib.rt`. Of that a linker checks the names alone, and with them the
 //!   layout's version; the test `header` compares the rest, and the other tests see a different value
 //!   in every field.

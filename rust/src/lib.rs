@@ -40,9 +40,9 @@
 //!
 //! # Building
 //!
-//! The static library, `libledgerwren.a`, is made by `rt staticlib ledgerwren` at the root of the
-//! repository. It is x86-64 code for Linux. `LEDGERWREN_LIB_DIR` names its folder where that is not
-//! `target/staticlib`. `cargo check` and `cargo doc` need no library.
+//! The static library, `libledgerwren.a`, is made by `./staticlib` at the root of the repository. It is
+//! x86-64 code for Linux. `LEDGERWREN_LIB_DIR` names its folder where that is not `target/staticlib`.
+//! `cargo check` and `cargo doc` need no library.
 //!
 //! The names of its calls carry the version of their layout, so that a library of another layout does
 //! not link.

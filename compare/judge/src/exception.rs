@@ -22,7 +22,7 @@ pub const NOTHING_WRITTEN: Refusal = Refusal {
     value: 0,
 };
 
-/// The kind that `kindOf` has for these numbers.
+/// The kind that `kind_of` has for these numbers.
 const TAKEN: &str = "Taken";
 
 fn held_to_kind(refusal: Refusal) -> Refusal {

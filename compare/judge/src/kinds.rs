@@ -1,4 +1,4 @@
-//! The definition `kindOf` of crates/demands: which kind of the crate's errors each number stands for.
+//! The definition `kind_of` of crates/demands: which kind of the crate's errors each number stands for.
 
 use std::collections::HashMap;
 use std::fmt::Debug;
@@ -23,8 +23,8 @@ pub fn name(error: &impl Debug) -> String {
 
 /// Lines like `(choose (n =? 5) PduInvalidLength`.
 fn read() -> HashMap<u8, String> {
-    let file = env::var("REFUSAL_KINDS").expect("REFUSAL_KINDS names the file of kindOf");
-    let text = fs::read_to_string(file).expect("the file of kindOf can be read");
+    let file = env::var("REFUSAL_KINDS").expect("REFUSAL_KINDS names the file of kind_of");
+    let text = fs::read_to_string(file).expect("the file of kind_of can be read");
     text.lines().filter_map(row).collect()
 }
 

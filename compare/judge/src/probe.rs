@@ -6,7 +6,7 @@ use std::io::{self, BufWriter, Error, ErrorKind, Read, Write};
 use std::process::{Child, ChildStdin, Command, Stdio};
 use std::thread;
 
-/// The program and the words before and after it, as an emulator and a loader.
+/// The program and its words.
 pub struct Probe(pub Vec<String>);
 
 impl Probe {

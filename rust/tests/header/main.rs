@@ -212,7 +212,7 @@ fn another_order_is_seen() {
             "    pub second: u8,\n",
         ),
         (
-            "ledgerwren/lib.rt",
+            rattle::EXPORTS,
             "    name: &[u8],\n",
             "    values: &[u8],\n",
         ),

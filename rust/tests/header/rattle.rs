@@ -7,6 +7,9 @@ use std::collections::BTreeMap;
 use std::fs;
 use std::path::Path;
 
+/// The library for C, which alone has exports.
+pub const EXPORTS: &str = "ledgerwren_c/lib.rt";
+
 /// Libraries that are not exported, and whose refusals have no name in the header: those are their constants.
 const NOT_EXPORTED: [&str; 3] = [
     "page_collector/lib.rt",
@@ -126,14 +129,14 @@ pub fn exported(sources: &Sources) -> Interface {
         let named = named.map(|(name, value)| (format!("LEDGERWREN_{prefix}_{name}"), value));
         interface.constants.extend(named);
     }
-    add_functions(&mut interface, &sources["ledgerwren/lib.rt"]);
+    add_functions(&mut interface, &sources[EXPORTS]);
     add_structs(&mut interface, &all_structs(sources));
     interface
 }
 
 fn add_functions(interface: &mut Interface, text: &str) {
     let text = without_comments(text);
-    for rest in text.split("#[no_mangle]").skip(1) {
+    for rest in text.split("#[unsafe(no_mangle)]").skip(1) {
         let (name, rest) =
             between(rest, "pub extern \"C\" fn ", "(").expect("an exported function");
         let (parameters, rest) = rest.split_once(')').expect("the parameters' end");

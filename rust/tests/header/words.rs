@@ -33,11 +33,11 @@ pub fn written(sources: &Sources, function: &str) -> Words {
     .collect()
 }
 
-/// What is wrong, a line for each reason: `wrongWords why.Flags = ascii ".."`.
+/// What is wrong, a line for each reason: `wrong_words why.Flags = ascii ".."`.
 pub fn defined_for_reasons(definitions: &Sources) -> Words {
     let lines = definitions[DEFINITIONS].lines();
     lines
-        .filter_map(|line| line.strip_prefix("wrongWords ")?.split_once(" = "))
+        .filter_map(|line| line.strip_prefix("wrong_words ")?.split_once(" = "))
         .map(|(case, text)| {
             let (words, _) = between(text, "ascii \"", "\"").expect("words");
             (name(case), words.to_string())
@@ -47,8 +47,8 @@ pub fn defined_for_reasons(definitions: &Sources) -> Words {
 
 /// The layers, by the constants of their places: `pick (eqb place root) (ascii "..") (ascii "..")`.
 pub fn defined_for_layers(definitions: &Sources) -> Words {
-    let (body, _) =
-        between(&definitions[DEFINITIONS], "\nlayerWords place =", "\n\n").expect("the definition");
+    let (body, _) = between(&definitions[DEFINITIONS], "\nlayer_words place =", "\n\n")
+        .expect("the definition");
     let pieces: Vec<_> = body.split("(ascii \"").collect();
     let pairs = pieces.windows(2);
     pairs
