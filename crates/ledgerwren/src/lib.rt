@@ -1,4 +1,4 @@
-// What Rust and C link. Each call hands on, as plain structs, what the proved call answers.
+// What Rust and C link, through `ledgerwren_c`. Each call hands on, as plain structs, what the proved call answers.
 #![tactic(auto)]
 
 ghost use Rattle.std.specs.Prelude.{◌≡◌, length};
@@ -16,23 +16,20 @@ use c_answers::{
 };
 use refusal::Refusal;
 
-#[unsafe(no_mangle)]
-pub extern "C" fn ledgerwren1_parse(datagram: &[u8]) -> Found
+pub fn ledgerwren1_parse(datagram: &[u8]) -> Found
     ensures { result ≡ found_of (reading_of datagram.now) }
 {
     c_answers::flatten(packet::parse(datagram))
 }
 
-#[unsafe(no_mangle)]
-pub extern "C" fn ledgerwren1_parse_2009(datagram: &[u8]) -> Found2009
+pub fn ledgerwren1_parse_2009(datagram: &[u8]) -> Found2009
     ensures { result ≡ found2009_of (reading2009_of datagram.now) }
 {
     c_answers::flatten_2009(edition2009::parse(datagram))
 }
 
 // Fills `out` with the universes that a datagram lists. At a refusal `out` is left as found.
-#[unsafe(no_mangle)]
-pub extern "C" fn ledgerwren1_copy_universes(datagram: &[u8], out: &mut [u16]) -> Outcome
+pub fn ledgerwren1_copy_universes(datagram: &[u8], out: &mut [u16]) -> Outcome
     ensures answer { result ≡ copied_outcome (copied_of (packet_of datagram.now) (length out.old)) }
     ensures filled { out.new ≡ after_copy (copied_of (packet_of datagram.now) (length out.old)) (universes_in datagram.now) out.old }
 {
@@ -40,8 +37,7 @@ pub extern "C" fn ledgerwren1_copy_universes(datagram: &[u8], out: &mut [u16]) -
 }
 
 // The writers: the packet in front of `buf` and the rest as found, or all as found at a refusal.
-#[unsafe(no_mangle)]
-pub extern "C" fn ledgerwren1_pack_data(
+pub fn ledgerwren1_pack_data(
     buf: &mut [u8],
     header: DataHeader,
     name: &[u8],
@@ -55,8 +51,7 @@ pub extern "C" fn ledgerwren1_pack_data(
     c_answers::packed_outcome(pack::pack_data(buf, cid, fields, name, values))
 }
 
-#[unsafe(no_mangle)]
-pub extern "C" fn ledgerwren1_pack_synchronization(
+pub fn ledgerwren1_pack_synchronization(
     buf: &mut [u8],
     header: SynchronizationHeader,
 ) -> Outcome
@@ -68,8 +63,7 @@ pub extern "C" fn ledgerwren1_pack_synchronization(
     c_answers::packed_outcome(pack::pack_synchronization(buf, cid, fields))
 }
 
-#[unsafe(no_mangle)]
-pub extern "C" fn ledgerwren1_pack_discovery(
+pub fn ledgerwren1_pack_discovery(
     buf: &mut [u8],
     header: DiscoveryHeader,
     name: &[u8],
@@ -83,15 +77,13 @@ pub extern "C" fn ledgerwren1_pack_discovery(
     c_answers::packed_outcome(pack::pack_discovery(buf, cid, fields, name, universes))
 }
 
-#[unsafe(no_mangle)]
-pub extern "C" fn ledgerwren1_is_universe_in_range(universe: u16) -> Refusal
+pub fn ledgerwren1_is_universe_in_range(universe: u16) -> Refusal
     ensures { result ≡ refusal_of (checked_of (universe_checks universe)) }
 {
     c_answers::refusal_of(universe::is_universe_in_range(universe))
 }
 
-#[unsafe(no_mangle)]
-pub extern "C" fn ledgerwren1_universe_to_ipv4_multicast_addr(universe: u16) -> Address
+pub fn ledgerwren1_universe_to_ipv4_multicast_addr(universe: u16) -> Address
     ensures { result ≡ address_of (multicast_of universe) }
 {
     c_answers::address_of(universe::universe_to_ipv4_multicast_addr(universe))

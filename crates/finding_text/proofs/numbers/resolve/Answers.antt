@@ -39,7 +39,7 @@ returns-in-WordBefore c = let by-source : (known : Source) → c.args.source ≡
 pub returns-in-Length : goal.returns-in-Length
 unfolding shown_of
 returns-in-Length c = let by-source : (known : Source) → c.args.source ≡ known → shown_of known c.args.d.now c.args.fault ≡ shown_of c.args.source c.args.d.now c.args.fault = λ known e. ap (λ (s : Source). shown_of s c.args.d.now c.args.fault) (sym e) in
-    ap shown.Number (c.length_at.ensures ∙ ap (length_at _) c.start_in.ensures) ∙ by-source source.Length c.in-Length.is
+    ap shown.Number (c.length_at.ensures ∙ ap (length_at _) c.start_of.ensures) ∙ by-source source.Length c.in-Length.is
 
 pub returns-in-Room : goal.returns-in-Room
 unfolding shown_of

@@ -24,7 +24,7 @@ pub returns-in-4 : goal.returns-in-4
 returns-in-4 c = c.left_of-in-4.ensures ∙ ap (λ (n : ℕ). n - 77) c.length_at-in-4.ensures ∙ sym (ap (room_at _) c.in-4.is)
 
 pub returns-in_default : goal.returns-in_default
-returns-in_default c = let gone = c.in_default.rest in
+returns-in_default c = let gone = c.in_default.in_default-own.rest in
     c.left_of-in_default.ensures
     ∙ ap (λ (n : ℕ). n - 74) c.length_at-in_default.ensures
     ∙ sym (elsewhere _ _ gone.0.0.0.1 gone.0.0.1 gone.0.1 gone.1)

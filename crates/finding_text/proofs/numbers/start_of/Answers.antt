@@ -31,5 +31,5 @@ pub returns-in-6 : goal.returns-in-6
 returns-in-6 c = sym (ap start_of c.in-6.is)
 
 pub returns-in_default : goal.returns-in_default
-returns-in_default c = let gone = c.in_default.rest in
+returns-in_default c = let gone = c.in_default.in_default-own.rest in
     sym (elsewhere _ gone.0.0.0.0.1 gone.0.0.0.1 gone.0.0.1 gone.0.1 gone.1)
