@@ -33,10 +33,6 @@ module _ {K : Type 0} {A R E : K → Type 0} where
       ((k : K) → R k → R k → E k → E k → Type 0) → Type 0
   SettledIf L given alike = (k : K) (a : A k) (r s : R k) (e f : E k) (p : L k a r e) (q : L k a s f) → given k a r s e f p q → alike k r s e f
 
-  -- whatever is alike of two results, by what is learnt of each
-  abbrev pub SettledIn : (L : (k : K) → A k → R k → E k → Type 0) → ((k : K) (a : A k) (r s : R k) (e f : E k) → L k a r e → L k a s f → Type 0) → Type 0
-  SettledIn L alike = (k : K) (a : A k) (r s : R k) (e f : E k) (p : L k a r e) (q : L k a s f) → alike k a r s e f p q
-
   module _ {L : (k : K) → A k → R k → E k → Type 0} where
     -- a contract that says the result by the arguments; what is seen; the result, and by it the buffer
     pub settled : {answer : (k : K) → A k → R k} → ((k : K) (a : A k) (r : R k) (e : E k) → L k a r e → r ≡ answer k a) → Settled L

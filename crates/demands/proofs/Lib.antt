@@ -26,7 +26,6 @@ pub mod Wrong
 pub mod Malformed
 pub mod NoStartCode
 pub mod Laid
-pub mod Picking
 pub mod Unlooked
 pub mod Settled
 pub mod SettledText

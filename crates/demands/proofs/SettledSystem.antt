@@ -1,8 +1,6 @@
 -- Demand 1 for the calls that use the system: two results that satisfy a call's contract, and of which the system said the same, are equal, and so
 -- are two buffers at exit. Assumes nothing.
 use mathlib.Core.Path.{◌≡◌, sym, ap, ◌∙◌}
-use mathlib.Core.Bool.{false}
-use mathlib.Core.List.{[]}
 use Rattle.standard_io.proofs as StandardIo
 use Rattle.standard_io.specs.System.{heard_after}
 use Rattle.standard_io.specs.declared.Said.{Said}
@@ -13,11 +11,7 @@ use Rattle.capture_input.proofs.Once.{Same, took_once}
 use Rattle.capture_input.specs.Entries.{unread_in}
 use Rattle.turns.proofs as Turns
 use Rattle.turns.specs.Turn.{over}
-use Rattle.turns.specs.Run.{moment_of, arrived_in, left_in, Fresh, BrokenOff}
-use Rattle.turns.proofs.Run.{ran_once}
-use Rattle.capture_lines.proofs as CaptureLines
-use Rattle.capture_lines.specs.Telling.{telling_of}
-use Rattle.demands.proofs.Contracts.{Settled, settled, SettledIf, SettledIn}
+use Rattle.demands.proofs.Contracts.{Settled, settled, SettledIf}
 
 -- standard_io
 pub nothing_heard : Settled StandardIo.nothing_heard.Reads.Learnt
@@ -103,19 +97,3 @@ pub finish : SettledIf Turns.finish.Reads.Learnt (λ k a r s e f p q. r.wrote.al
 finish k a r s e f p q same =
     let wrote = same_write r.wrote s.wrote (p.handed ∙ sym q.handed) same in
     (p.done ∙ ap (over _) wrote ∙ sym q.done, p.text ∙ sym q.text)
-
-pub close : SettledIf Turns.close.Reads.Learnt (λ k a r s e f p q. r.wrote.all ≡ s.wrote.all) (λ k r s e f. r ≡ s)
-close k a r s e f p q same =
-    let wrote = same_write r.wrote s.wrote (p.handed ∙ sym q.handed) same in
-    p.done ∙ ap (over _) wrote ∙ sym q.done
-
--- capture_lines
--- two runs from a fresh moment that stopped and did not break off, and to which the same bytes arrived, have written the same text
-pub run : SettledIn CaptureLines.run.Reads.Learnt
-    (λ k a r s e f p q.
-    let T = telling_of a.1.1.1.0 a.1.1.1.1.0.now in
-    let m = moment_of a.1.1.1.1.1.0 a.0.now a.1.1.0.now in
-    Fresh m → r.going ≡ false → s.going ≡ false → (BrokenOff r → ⊥) → (BrokenOff s → ⊥) →
-    arrived_in T [] m p.2.0 p.2.1 ≡ arrived_in T [] m q.2.0 q.2.1 →
-    left_in T [] m p.2.0 p.2.1 ≡ left_in T [] m q.2.0 q.2.1)
-run k a r s e f p q fresh stopped stopped' unbroken unbroken' same = ran_once _ _ _ _ _ _ r s p q fresh stopped stopped' unbroken unbroken' same

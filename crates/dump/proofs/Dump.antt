@@ -22,11 +22,11 @@ Dumped block out ms t state =
 
 -- By the contract of `run`: all text that was put has left, but for what is still in the buffer; the bytes that arrived and that left are as
 -- many as the system brought and was handed; and the whole input was dumped, or the program broke off.
-pub dumped : (block out block' out' : List ℕ) (state : State) (r : Ran dumping (beginning block out) block' out' state) → 40000 ≤ length out → state.going ≡ false →
+pub dumped : (block out block' out' : List ℕ) (state : State) (r : Ran dumping block out block' out' state) → 40000 ≤ length out → state.going ≡ false →
     let m = beginning block out in
     let ms = r.2.0 in
     let t = r.2.1 in
     (left_in dumping [] m ms t ++ take state.at out' ≡ text_in dumping [] m ms t)
-    × Accounted dumping m ms t state
+    × Accounted dumping block out ms t state
     × (Dumped block out ms t state ⊎ BrokenOff state)
 dumped = ran dumping

@@ -35,10 +35,10 @@ pub not_readable : (f : Fault) → Readable ≡ Refused f → ⊥
 not_readable f e = let z : ◌≡◌ {A = ℕ} 0 1 = cc in omega arith
 
 -- a reader's refusal is that of its list
-pub refused_by_lem : {A : Type 0} (refused : Refusal → A) (cs : List Check) (next : A) (r : Refusal) → ((s : Refusal) → refused s ≡ refused r → s ≡ r) →
+pub refused_by : {A : Type 0} (refused : Refusal → A) (cs : List Check) (next : A) (r : Refusal) → ((s : Refusal) → refused s ≡ refused r → s ≡ r) →
     (next ≡ refused r → ⊥) → reading refused cs next ≡ refused r → Refuses cs r
 unfolding checked_of
-refused_by_lem refused cs next r same other e =
+refused_by refused cs next r same other e =
     ⊎_elim (λ (a : All cs). absurd (other (sym (all_hold refused cs next a) ∙ e)))
     (λ (s : (k : ℕ) × Stops k cs).
     first_fails checked.Refused s.0 cs checked.Passed s.1

@@ -28,11 +28,11 @@ Followed block out ms t state =
 
 -- By the contract of `run`: all text that was put has left, but for what is still in the buffer; the bytes that arrived and that left are as
 -- many as the system brought and was handed; and the whole input was followed, or the program broke off.
-pub followed : (block out block' out' : List ℕ) (state : State) (r : Ran telling (beginning block out) block' out' state) → 40000 ≤ length out → state.going ≡ false →
+pub followed : (block out block' out' : List ℕ) (state : State) (r : Ran telling block out block' out' state) → 40000 ≤ length out → state.going ≡ false →
     let m = beginning block out in
     let ms = r.2.0 in
     let t = r.2.1 in
     (left_in telling [] m ms t ++ take state.at out' ≡ text_in telling [] m ms t)
-    × Accounted telling m ms t state
+    × Accounted telling block out ms t state
     × (Followed block out ms t state ⊎ BrokenOff state)
 followed = ran telling

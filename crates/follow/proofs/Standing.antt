@@ -17,7 +17,7 @@ use Rattle.standard_io.specs.declared.Heard as heard
 use Rattle.capture_input.specs.declared.Next.{Next}
 use Rattle.capture_input.specs.declared.Next.TheVariants.{Entry, Stop, Failed}
 use Rattle.turns.specs.Turn.{over, TakenFrom}
-use Rattle.turns.specs.Run.{beginning, SoFar, Ran}
+use Rattle.turns.specs.Run.{SoFar, Ran}
 use Rattle.turns.specs.declared.State.{State}
 use Rattle.turns.proofs.Laws.{Leads, Last, entry_leads, last_leads, last_behind}
 use Rattle.turns.proofs.Run.{no_turns, entries_so_far, turn_more}
@@ -36,7 +36,7 @@ use Rattle.follow.specs.Following.{begun_of, goes_of, silent, heard_next, Told, 
 -- after the turns so far the table and the totals are those of the entries behind
 pub record Stands (t₀ : List entry.Entry) (block₀ out₀ block buffer out : List ℕ) (table : List entry.Entry) (p : Progress) : Type 0 where
   pub past : List (List ℕ)
-  pub so_far : SoFar (following t₀) (beginning block₀ out₀) block out p.state p.n past
+  pub so_far : SoFar (following t₀) block₀ out₀ block out p.state p.n past
   pub follows : held_by t₀ past ≡ record { table = table; totals = p.totals }
   pub room : length buffer ≡ 8192
   pub few : p.n ≤ 0xffff_ffff_ffff_ffff
@@ -54,10 +54,10 @@ more p e = (going p e).1
 
 pub starts : (t : List entry.Entry) (block buffer out : List ℕ) → length buffer ≡ 8192 → Stands t block out block buffer out t begun_of
 unfolding held_after_all
-starts t block buffer out room = record { past = []; so_far = no_turns (following t) (beginning block out); follows = refl; room = room; few = omega arith }
+starts t block buffer out room = record { past = []; so_far = no_turns (following t) block out; follows = refl; room = room; few = omega arith }
 
 pub stops : (t₀ : List entry.Entry) (block₀ out₀ block buffer out : List ℕ) (table : List entry.Entry) (p : Progress) →
-    Stands t₀ block₀ out₀ block buffer out table p → goes_of p ≡ false → Ran (following t₀) (beginning block₀ out₀) block out p.state
+    Stands t₀ block₀ out₀ block buffer out table p → goes_of p ≡ false → Ran (following t₀) block₀ out₀ block out p.state
 stops t₀ block₀ out₀ block buffer out table p s e =
     (p.n, s.past, s.so_far, s.few, λ on. let full = ltb-false p.n 0xffff_ffff_ffff_ffff (rw on at e) in omega (arith, full, s.few))
 
@@ -79,12 +79,12 @@ module _ (t₀ : List entry.Entry) (block₀ out₀ block buffer out : List ℕ)
   on = (going p goes).0
 
   abbrev many : length s.past ≡ p.n
-  many = entries_so_far (following t₀) (beginning block₀ out₀) block out p.state p.n s.past s.so_far on
+  many = entries_so_far (following t₀) block₀ out₀ block out p.state p.n s.past s.so_far on
 
   stands_then : (past' : List (List ℕ)) → Leads (following t₀) s.past p.state block block' out out' r.state past' →
       held_by t₀ past' ≡ record { table = table'; totals = f.totals } → Stands t₀ block₀ out₀ block' buffer' out' table' r
   stands_then past' (turn, grew) held =
-      let next = turn_more (following t₀) (beginning block₀ out₀) block out block' out' p.state r.state p.n s.past s.so_far on turn in
+      let next = turn_more (following t₀) block₀ out₀ block out block' out' p.state r.state p.n s.past s.so_far on turn in
       record {
         past = past';
         so_far = rw (← n-is, grew) at next;

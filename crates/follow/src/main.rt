@@ -7,7 +7,7 @@ ghost use Rattle.text.specs.Put.{Put};
 ghost use Rattle.line.specs.Lines.{refused_line};
 ghost use Rattle.follow_rules.specs.Table.{cleared};
 ghost use Rattle.turns.specs.Turn.{TakenFrom};
-ghost use Rattle.turns.specs.Run.{beginning, Ran};
+ghost use Rattle.turns.specs.Run.{Ran};
 ghost use Rattle.follow.specs.Lines.{word_line, became_line, totals_line};
 ghost use Rattle.follow.specs.Following.{begun_of, goes_of, silent, heard_next, Told, following};
 
@@ -173,7 +173,7 @@ fn tell(out: &mut [u8], progress: Progress, caught: Caught, followed: Followed) 
 // longest entry, one with its length, and a line.
 fn run(table: [Entry; SOURCES], block: &mut [u8], entry: &mut [u8], out: &mut [u8]) -> State
     requires { (table ≡ cleared 1024) × (length entry.old ≡ 8192) × (8194 ≤ length block.old) × (40000 ≤ length out.old) }
-    ensures { Ran (following (cleared 1024)) (beginning block.old out.old) block.new out.new result }
+    ensures { Ran (following (cleared 1024)) block.old out.old block.new out.new result }
 {
     let mut table = table;
     let mut progress = begin();

@@ -1,10 +1,6 @@
 -- The lines that answer requests.
-use Rattle.std.specs.Prelude.{ℕ, Bool, true, false, List, [], ◌∷◌}
-use Rattle.refusal.specs.Check.{checked_of}
-use Rattle.refusal.specs.declared.Checked.{Checked}
-use Rattle.refusal.specs.declared.Checked.TheVariants as checked
+use Rattle.std.specs.Prelude.{ℕ, List, [], ◌∷◌}
 use Rattle.wire.specs.Fields.{join}
-use Rattle.name_pattern.specs.Pattern.{pattern_checks, picks_of}
 use Rattle.packet.specs.declared.DataRecord.{DataRecord}
 use Rattle.packet.specs.declared.SynchronizationRecord.{SynchronizationRecord}
 use Rattle.packet.specs.declared.Reading.{Reading}
@@ -56,17 +52,3 @@ address_line n a = join (decimal n ∷ dotted a ∷ ascii " port " ∷ decimal a
 abbrev pub address_answer : ℕ → Multicast → List ℕ
 address_answer n (Address a) = address_line n a
 address_answer n (Refused r) = refused_line n r
-
--- the number of a refusal, or 0
-abbrev pub refused_by : Checked → ℕ
-refused_by checked.Passed = 0
-refused_by (checked.Refused r) = r.number
-
-abbrev pub verdict : Bool → List ℕ
-verdict true = ascii " picks yes\n"
-verdict false = ascii " picks no\n"
-
--- `N pattern R picks A`
-unfoldable pub picks_answer : ℕ → List ℕ → List ℕ → List ℕ
-picks_answer n pattern name =
-    join (decimal n ∷ ascii " pattern " ∷ decimal (refused_by (checked_of (pattern_checks pattern))) ∷ verdict (picks_of pattern name) ∷ [])

@@ -3,7 +3,6 @@
 #![tactic(auto)]
 
 mod address;
-mod picking;
 mod read;
 mod write;
 
@@ -26,8 +25,6 @@ const ADDRESS: u8 = 4;
 
 // Words that are told as they are, for whoever reads the answers.
 const WORDS: u8 = 5;
-
-const PICK: u8 = 6;
 
 fn put_words(out: &mut [u8], at: usize, words: &[u8]) -> usize {
     let next = text::put(out, at, words);
@@ -54,20 +51,6 @@ fn put_written(out: &mut [u8], at: usize, n: u64, kind: u8, asked: &[u8]) -> usi
     }
 }
 
-// The answer to a pattern and a name: a byte says how long the pattern is, and the name stands behind it.
-fn put_picked(out: &mut [u8], at: usize, n: u64, asked: &[u8]) -> usize {
-    if asked.len() == 0 {
-        return put_malformed(out, at, n);
-    }
-    let len = wire::byte_at(asked, 0) as usize;
-    let rest = wire::part(asked, 1, asked.len() - 1);
-    if rest.len() < len {
-        return put_malformed(out, at, n);
-    }
-    let name = wire::part(rest, len, rest.len() - len);
-    picking::put_picks(out, at, n, wire::part(rest, 0, len), name)
-}
-
 // The answer to request n.
 fn put_answer(out: &mut [u8], at: usize, n: u64, request: &[u8]) -> usize {
     if request.len() == 0 {
@@ -86,7 +69,6 @@ fn put_answer(out: &mut [u8], at: usize, n: u64, request: &[u8]) -> usize {
             address::put_address(out, at, n, wire::u16_at(asked, 0))
         }
         WORDS => put_words(out, at, asked),
-        PICK => put_picked(out, at, n, asked),
         _ => put_malformed(out, at, n),
     }
 }

@@ -1,8 +1,8 @@
 -- A turn, from what the calls of it say. Assumes nothing.
-use Prim.Native.Nat.{ℕ, ◌+◌, ◌≤◌, ◌<◌, min}
+use Prim.Native.Nat.{ℕ, ◌+◌, ◌≤◌, ◌<◌}
 use mathlib.Core.Path.{◌≡◌, refl, sym, ap, ◌∙◌}
 use mathlib.Core.List.{List, [], ◌∷◌, ◌++◌}
-use mathlib.Core.Bool.{true, false}
+use mathlib.Core.Bool.{true}
 use native.Mathlib.Omega.{arith}
 use lib.ListN.{length, take, drop, length-append, length-drop}
 use lib.Seq.{sets, length-sets, length-take-le}
@@ -21,7 +21,6 @@ use Rattle.text.proofs.Puts.{put_then}
 use Rattle.line.specs.Lines.{last_line}
 use Rattle.line.proofs.Fits.{last_fits}
 use Rattle.standard_io.specs.System.{counted}
-use Rattle.standard_io.specs.declared.Said.TheVariants.{Nothing}
 use Rattle.standard_io.specs.declared.Heard.{Heard}
 use Rattle.standard_io.specs.declared.Wrote.{Wrote}
 use Rattle.capture_input.specs.Entries.{unread_in, waits_at, stopped}
@@ -31,8 +30,8 @@ use Rattle.capture_input.proofs.Laws.{put_part}
 use Rattle.capture_input.specs.contracts.Next.{the_type}
 use Rattle.turns.specs.declared.State.{State}
 use Rattle.turns.specs.declared.Found.{Found}
-use Rattle.turns.specs.Run.{moment_of, grown, later}
-use Rattle.turns.specs.Turn.{over, last_text, end_of, TakenFrom, WentOn, Ended, Finished, Telling, LinePut, LastPut, Turn}
+use Rattle.turns.specs.Run.{grown, later}
+use Rattle.turns.specs.Turn.{over, last_text, end_of, TakenFrom, WentOn, Finished, Telling, LinePut, LastPut, Turn}
 
 -- a program that is over, by what it heard and wrote last
 pub over_by : (x : State) (h : Heard) (w : Wrote) (n : ℕ) → x ≡ over h w → w.total ≡ n → (x ≡ over h x.wrote) × (x.wrote.total ≡ n)
@@ -51,66 +50,33 @@ line_put line at end before after state went short put on =
       goes = on.goes;
     }
 
--- An entry d of m bytes that was taken: where it stood in what was unread and arrived, and what is left.
-pub record TookEntry (block block' entry entry' : List ℕ) (state : State) (found : Found) (m : ℕ) (d : List ℕ) : Type 0 where
-  pub arrived : List ℕ
-  pub start : ℕ
-  pub at_front : front_of (unread_in block state.unread ++ arrived) ≡ front.Entry start m
-  pub bytes : d ≡ take m (drop start (unread_in block state.unread ++ arrived))
-  pub put : entry' ≡ sets entry 0 (take m (drop start (unread_in block state.unread ++ arrived)))
-  pub short : length d ≤ 8192
-  pub left : unread_in block' found.state.unread ≡ drop (start + m) (unread_in block state.unread ++ arrived)
-  pub total : found.state.heard.total ≡ counted state.heard.total (length arrived)
-  pub quiet : waits_at (front_of (unread_in block state.unread)) ≡ false → (arrived ≡ []) × (found.state.heard.said ≡ Nothing)
-
-pub took_entry : (state : State) (found : Found) (m : ℕ) (block block' entry entry' d : List ℕ) → length entry ≡ 8192 → TakenFrom block block' entry entry' state found →
-    found.next ≡ Entry m → d ≡ part_of entry' 0 m → TookEntry block block' entry entry' state found m d
-took_entry state found m block block' entry entry' d room (t, at, wrote, going) e part =
-    let took = rw e at t in
-    let whole = unread_in block state.unread ++ took.0 in
-    let k = took.1.0 in
-    let w = entry_within whole k m took.1.1 in
-    let x = take m (drop k whole) in
-    let size : length x ≡ m = length-take-le m (drop k whole) (omega (arith, w.inside, length-drop k whole)) in
-    let same : d ≡ x = part ∙ ap (λ (l : List ℕ). part_of l 0 m) took.1.2 ∙ put_part entry x m size (omega (arith, w.small)) in
-    record {
-      arrived = took.0;
-      start = k;
-      at_front = took.1.1;
-      bytes = same;
-      put = took.1.2;
-      short = omega (arith, ap length same, size, w.small);
-      left = took.1.3;
-      total = took.4;
-      quiet = took.5;
-    }
-
 -- a turn, and the entries behind it
 abbrev pub Leads : Telling → List (List ℕ) → State → List ℕ → List ℕ → List ℕ → List ℕ → State → List (List ℕ) → Type 0
 Leads T past state block block' before after went grew =
-    (turn : Turn T past state block block' before after went) × (later past (moment_of state block before) turn.0 ≡ grew)
+    (turn : Turn T past state block block' before after went) × (later past (record { state = state; block = block; out = before }) turn.0 ≡ grew)
 
 -- A turn that takes an entry d of m bytes and puts its text.
 pub entry_leads : (T : Telling) (past : List (List ℕ)) (state went : State) (found : Found) (m end : ℕ) (block block' entry entry' d before after : List ℕ) →
     length entry ≡ 8192 → TakenFrom block block' entry entry' state found → found.next ≡ Entry m → d ≡ part_of entry' 0 m →
     Put before after found.state.at end (T.line past d) → (length d ≤ 8192 → length (T.line past d) ≤ 40000) → WentOn after end found.state went →
     Leads T past state block block' before after went (past ++ (d ∷ []))
-entry_leads T past state went found m end block block' entry entry' d before after room taken e part put fits on =
-    let took = took_entry state found m block block' entry entry' d room taken e part in
-    let whole = unread_in block state.unread ++ took.arrived in
+entry_leads T past state went found m end block block' entry entry' d before after room (t, at, wrote, going) e part put fits on =
+    let took = rw e at t in
+    let arrived = took.0 in
+    let whole = unread_in block state.unread ++ arrived in
+    let k = took.1.0 in
+    let w = entry_within whole k m took.1.1 in
+    let x = take m (drop k whole) in
+    let size : length x ≡ m = length-take-le m (drop k whole) (omega (arith, w.inside, length-drop k whole)) in
+    let same : d ≡ x = part ∙ ap (λ (l : List ℕ). part_of l 0 m) took.1.2 ∙ put_part entry x m size (omega (arith, w.small)) in
+    let short : length (T.line past d) ≤ 40000 = fits (omega (arith, ap length same, size, w.small)) in
     let line : LinePut (T.line past d) state.at before after state.wrote went =
-    rw (taken.1, taken.2) at (line_put (T.line past d) found.state.at end before after found.state went (fits took.short) put on) in
-    let left = ap (unread_in block') on.unread ∙ took.left in
+    rw (at, wrote) at (line_put (T.line past d) found.state.at end before after found.state went short put on) in
+    let left : unread_in block' went.unread ≡ drop (k + m) whole = ap (unread_in block') on.unread ∙ took.1.3 in
     let total = ap (λ (h : Heard). h.total) on.heard in
     let said = ap (λ (h : Heard). h.said) on.heard in (
-      (
-        took.arrived,
-        Entry m,
-        (took.start, took.at_front, left, rw (← took.bytes) line),
-        total ∙ took.total,
-        λ h. ((took.quiet h).0, said ∙ (took.quiet h).1),
-      ),
-      ap (grown past whole) took.at_front ∙ ap (λ (y : List ℕ). past ++ (y ∷ [])) (sym took.bytes),
+      (arrived, Entry m, (k, took.1.1, left, rw (← same) line), total ∙ took.4, λ h. ((took.5 h).0, said ∙ (took.5 h).1)),
+      ap (grown past whole) took.1.1 ∙ ap (λ (y : List ℕ). past ++ (y ∷ [])) (sym same),
     )
 
 pub entry_turn : (T : Telling) (past : List (List ℕ)) (state went : State) (found : Found) (m end : ℕ) (block block' entry entry' d before after : List ℕ) →
@@ -199,19 +165,3 @@ finished_turn T past n state went found block block' entry entry' before after f
     let done : went ≡ over went.heard went.wrote = put.done ∙ ap (λ (h : Heard). over h went.wrote) (sym heard) in
     last_turn T past state went found found.next block block' entry entry' before after t refl heard
     (last_put T past n state.at found.next before after state.wrote went few is tag (rw t.1 at put.text) (rw (t.1, t.2) at put.handed) done)
-
--- All text, of which the last was put at `at`, is handed over, and the program is over.
-pub closed_last : (last : List ℕ) (at end : ℕ) (before after : List ℕ) (state went : State) → length last ≤ 40000 → Put before after at end last → Ended after end state went →
-    (went.heard ≡ state.heard) × LastPut last at before after state.wrote went
-closed_last last at end before after state went short put ended =
-    let heard : went.heard ≡ state.heard = ap (λ (x : State). x.heard) ended.done in
-    let long : length after ≡ length before = ap length put.written ∙ length-sets before at last in
-    let all : min end (length after) ≡ end_of (length before) at last = omega (arith, put.place, long) in (
-      heard,
-      record {
-        short = short;
-        text = put.written;
-        handed = ended.handed ∙ ap (counted state.wrote.total) all;
-        done = ended.done ∙ ap (λ (h : Heard). over h went.wrote) (sym heard);
-      },
-    )

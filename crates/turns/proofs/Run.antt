@@ -19,13 +19,13 @@ use Rattle.capture.proofs.More.{front_more}
 use Rattle.standard_io.specs.System.{counted}
 use Rattle.standard_io.specs.declared.Wrote.{Wrote}
 use Rattle.standard_io.proofs.Laws.{counted_on}
-use Rattle.capture_input.specs.Entries.{unread_in, stopped, Because}
+use Rattle.capture_input.specs.Entries.{stopped, Because}
 use Rattle.capture_input.specs.declared.Next.{Next}
 use Rattle.capture_input.specs.declared.Next.TheVariants.{Entry, Stop, Failed}
 use Rattle.capture_input.proofs.Laws.{front_part}
 use Rattle.turns.specs.declared.State.{State}
-use Rattle.turns.specs.Turn.{begun, Telling, end_of, LinePut, LastPut, Turned, Turn}
-use Rattle.turns.specs.Run.{line_at, grown, told, lines_from, text_from, text_of, Moment, unread_at, later, Turns, last_of, arrived_in, past_in, put_by, put_at, text_in, leaves_by, left_in, Finishes, Unseen, moment_of, beginning, Fresh, SoFar, Ran, Told, ToldAll, BrokenOff, Accounted}
+use Rattle.turns.specs.Turn.{Telling, end_of, LinePut, LastPut, Turned, Turn}
+use Rattle.turns.specs.Run.{line_at, grown, told, lines_from, text_from, text_of, Moment, unread_at, later, Turns, last_of, arrived_in, past_in, put_by, put_at, text_in, leaves_by, left_in, Finishes, Unseen, beginning, SoFar, Ran, Told, BrokenOff, Accounted}
 
 -- how many entries may be told does not matter, where they are enough
 enough : (T : Telling) (f g : ℕ) (past : List (List ℕ)) (s : List ℕ) → length s < f → length s < g → lines_from T f past s ≡ lines_from T g past s
@@ -43,23 +43,6 @@ enough T (suc f) (suc g) past s h k = by (λ p l a b. enough T f g p l a b) (fro
     by less front.Bad e = refl
     by less front.Cut e = refl
     by less front.End e = refl
-
--- two programs that tell the same of each entry tell the same of a capture
-same_lines : (T U : Telling) → ((past : List (List ℕ)) (d : List ℕ) → T.line past d ≡ U.line past d) → ((past : List (List ℕ)) (e : Ending) → T.last past e ≡ U.last past e) →
-    (f : ℕ) (past : List (List ℕ)) (s : List ℕ) → lines_from T f past s ≡ lines_from U f past s
-unfolding lines_from
-same_lines T U line last zero past s = refl
-same_lines T U line last (suc f) past s = by (λ p l. same_lines T U line last f p l) (front_of s)
-  where
-    by : ((p : List (List ℕ)) (l : List ℕ) → lines_from T f p l ≡ lines_from U f p l) → (x : Front) → told T (lines_from T f) past s x ≡ told U (lines_from U f) past s x
-    by less (front.Entry k m) = rw (line past (take m (drop k s)), less (past ++ (take m (drop k s) ∷ [])) (drop (k + m) s))
-    by less front.Bad = last past ending.Bad
-    by less front.Cut = last past ending.Cut
-    by less front.End = last past ending.End
-
-pub same_text : (T U : Telling) → ((past : List (List ℕ)) (d : List ℕ) → T.line past d ≡ U.line past d) → ((past : List (List ℕ)) (e : Ending) → T.last past e ≡ U.last past e) →
-    (s : List ℕ) → text_of T s ≡ text_of U s
-same_text T U line last s = same_lines T U line last (suc (length s)) [] s
 
 -- the text of a capture by its front
 text_entry : (T : Telling) (past : List (List ℕ)) (k m : ℕ) (s : List ℕ) → front_of s ≡ front.Entry k m →
@@ -82,34 +65,25 @@ differs : (k m : ℕ) (s : List ℕ) → front_of s ≡ front.Entry k m → (fro
 differs k m s e = (λ f. let z : ◌≡◌ {A = ℕ} 0 1 = cc in omega arith, λ f. let z : ◌≡◌ {A = ℕ} 0 1 = cc in omega arith)
 
 -- an entry at the front stays there, whatever follows
-pub record Ahead (k m : ℕ) (s rest : List ℕ) : Type 0 where
-  pub found : front_of (s ++ rest) ≡ front.Entry k m
-  pub bytes : take m (drop k (s ++ rest)) ≡ take m (drop k s)
-  pub left : drop (k + m) (s ++ rest) ≡ drop (k + m) s ++ rest
-
-pub ahead : (k m : ℕ) (s rest : List ℕ) → front_of s ≡ front.Entry k m → Ahead k m s rest
-ahead k m s rest e =
-    let w = entry_within s k m e in
-    let d = differs k m s e in
-    let fits : k ≤ length s = omega (arith, w.inside) in
-    record {
-      found = front_more s rest d.0 d.1 ∙ e;
-      bytes = ap (take m) (drop-append-le k s rest fits) ∙ take-append-le m (drop k s) rest (omega (arith, length-drop k s, w.inside));
-      left = drop-append-le (k + m) s rest w.inside;
-    }
-
 text_more : (T : Telling) (past : List (List ℕ)) (k m : ℕ) (s rest : List ℕ) → front_of s ≡ front.Entry k m →
     text_from T past (s ++ rest) ≡ line_at T past s (front_of s) ++ text_from T (grown past s (front_of s)) (drop (k + m) s ++ rest)
 text_more T past k m s rest e =
-    let w = ahead k m s rest e in
-    text_entry T past k m (s ++ rest) w.found ∙ rw (e, w.left, w.bytes)
+    let w = entry_within s k m e in
+    let d = differs k m s e in
+    let same : front_of (s ++ rest) ≡ front.Entry k m = front_more s rest d.0 d.1 ∙ e in
+    let fits : k ≤ length s = omega (arith, w.inside) in
+    let left : drop (k + m) (s ++ rest) ≡ drop (k + m) s ++ rest = drop-append-le (k + m) s rest w.inside in
+    let bytes : take m (drop k (s ++ rest)) ≡ take m (drop k s) =
+    ap (take m) (drop-append-le k s rest fits) ∙ take-append-le m (drop k s) rest (omega (arith, length-drop k s, w.inside)) in
+    text_entry T past k m (s ++ rest) same ∙ rw (e, left, bytes)
 
--- and so does the end of a capture, whatever follows unseen
-pub stays_over : (s rest : List ℕ) (e : Ending) → front_of s ≡ stopped e → Unseen e rest → front_of (s ++ rest) ≡ stopped e
-stays_over s rest ending.End h none = rw (none, append-nil s) h
-stays_over s rest ending.Cut h none = rw (none, append-nil s) h
-stays_over s rest ending.Bad h none =
-    front_more s rest (λ f. let z : ◌≡◌ {A = ℕ} 0 1 = cc in omega arith) (λ f. let z : ◌≡◌ {A = ℕ} 0 1 = cc in omega arith) ∙ h
+text_over : (T : Telling) (past : List (List ℕ)) (s rest : List ℕ) (e : Ending) → front_of s ≡ stopped e → Unseen e rest → text_from T past (s ++ rest) ≡ T.last past e
+text_over T past s rest ending.End h none = text_last T past (s ++ rest) ending.End (rw (none, append-nil s) h)
+text_over T past s rest ending.Cut h none = text_last T past (s ++ rest) ending.Cut (rw (none, append-nil s) h)
+text_over T past s rest ending.Bad h none =
+    let same : front_of (s ++ rest) ≡ front.Bad =
+    front_more s rest (λ f. let z : ◌≡◌ {A = ℕ} 0 1 = cc in omega arith) (λ f. let z : ◌≡◌ {A = ℕ} 0 1 = cc in omega arith) ∙ h in
+    text_last T past (s ++ rest) ending.Bad same
 
 -- a turn after which the program goes on took an entry
 record Entered (T : Telling) (past : List (List ℕ)) (s : List ℕ) (left : List ℕ) (text : List ℕ) : Type 0 where
@@ -158,12 +132,17 @@ put_all T past m (m' ∷ []) t e rest f none =
     let s = unread_at m ++ t.0.0 in
     let turned : Turned T past s (Stop e) (unread_at m') m.state.at m.out m'.out m.state.wrote m'.state = rw f at t.0.2 in
     let joined : unread_at m ++ ((t.0.0 ++ []) ++ rest) ≡ s ++ rest = simp (append-nil, append_assoc) in
-    rw (f, joined, append-nil (T.last past e)) (sym (text_last T past (s ++ rest) e (stays_over s rest e turned.0 none)))
+    rw (f, joined, append-nil (T.last past e)) (sym (text_over T past s rest e turned.0 none))
 put_all T past m (m' ∷ m'' ∷ ms) t e rest f none =
     let past' = later past m t.0.0 in
     on_from T past (unread_at m) t.0.0 (arrived_in T past' m' (m'' ∷ ms) t.2) rest (unread_at m') (put_at T past m t.0.0 t.0.1) (text_in T past' m' (m'' ∷ ms) t.2)
     (entered_at T past m m' t.0 t.2.1)
     (put_all T past' m' (m'' ∷ ms) t.2 e rest f none)
+
+-- The program as it starts: nothing is unread.
+put_whole : (T : Telling) (m : Moment) (ms : List Moment) (t : Turns T [] m ms) (e : Ending) (rest : List ℕ) → unread_at m ≡ [] → Finishes T [] m ms t e → Unseen e rest →
+    text_in T [] m ms t ≡ text_of T (arrived_in T [] m ms t ++ rest)
+put_whole T m ms t e rest start f none = put_all T [] m ms t e rest f none ∙ ap (λ (u : List ℕ). text_from T [] (u ++ (arrived_in T [] m ms t ++ rest))) start
 
 behind : (l x : List ℕ) (at : ℕ) → at + length x ≤ length l → take (at + length x) (sets l at x) ≡ take at l ++ x
 behind l x at h =
@@ -227,25 +206,6 @@ last_passes last at before after was state p room =
       whole = rw is (append-nil (take end after) ∙ w.all);
       roomy = omega (arith, w.long);
       handed = p.handed ∙ ap (counted was.total) (sym (length-take-le end after (omega (arith, w.long, w.ends))));
-    }
-
--- the last text of a program that had put none: all of it leaves
-pub record LeftLast (last : List ℕ) (at : ℕ) (before after : List ℕ) (was : Wrote) (state : State) : Type 0 where
-  pub whole : take (end_of (length before) at last) after ++ take state.at after ≡ last
-  pub text : take (end_of (length before) at last) after ≡ last
-  pub handed : state.wrote.total ≡ counted was.total (length (take (end_of (length before) at last) after))
-
-pub left_last : (last : List ℕ) (at : ℕ) (before after : List ℕ) (was : Wrote) (state : State) → LastPut last at before after was state → at ≡ 0 → 40000 ≤ length before →
-    LeftLast last at before after was state
-left_last last at before after was state p none room =
-    let w = last_passes last at before after was state p (omega arith) in
-    let end = end_of (length before) at last in
-    let over : state.at ≡ 0 = ap (λ (x : State). x.at) p.done in
-    let whole : take end after ++ take state.at after ≡ last = w.whole ∙ ap (λ (k : ℕ). take k before ++ last) none in
-    record {
-      whole = whole;
-      text = sym (append-nil (take end after)) ∙ ap (λ (k : ℕ). take end after ++ take k after) (sym over) ∙ whole;
-      handed = w.handed;
     }
 
 passes : (T : Telling) (past : List (List ℕ)) (s : List ℕ) (next : Next) (left : List ℕ) (at : ℕ) (before after : List ℕ) (was : Wrote) (state : State) →
@@ -341,13 +301,13 @@ counts T past m (m' ∷ []) t h = one_later T past m m' t.0 h
 counts T past m (m' ∷ m'' ∷ ms) t h =
     omega (arith, counts T (later past m t.0.0) m' (m'' ∷ ms) t.2 h, one_later T past m m' t.0 t.2.1)
 
-pub no_turns : (T : Telling) (m : Moment) → SoFar T m m.block m.out m.state 0 []
-no_turns T m = ([], tt, refl, refl, refl)
+pub no_turns : (T : Telling) (block out : List ℕ) → SoFar T block out block out (beginning block out).state 0 []
+no_turns T block out = ([], tt, refl, refl, refl)
 
-pub entries_so_far : (T : Telling) (m : Moment) (b o : List ℕ) (s : State) (n : ℕ) (past : List (List ℕ)) → SoFar T m b o s n past → s.going ≡ true → length past ≡ n
-entries_so_far T m b o s n past (ms, t, e, k, is) goes =
-    let going : (last_of m ms).state.going ≡ true = ap (λ (x : Moment). x.state.going) e ∙ goes in
-    omega (arith, ap length is, counts T [] m ms t going)
+pub entries_so_far : (T : Telling) (b o b' o' : List ℕ) (s : State) (n : ℕ) (past : List (List ℕ)) → SoFar T b o b' o' s n past → s.going ≡ true → length past ≡ n
+entries_so_far T b o b' o' s n past (ms, t, e, k, is) goes =
+    let going : (last_of (beginning b o) ms).state.going ≡ true = ap (λ (x : Moment). x.state.going) e ∙ goes in
+    omega (arith, ap length is, counts T [] (beginning b o) ms t going)
 
 -- a turn from a moment that is known by another name
 abbrev Renamed : Telling → List (List ℕ) → Moment → Moment → List (List ℕ) → Type 0
@@ -360,11 +320,14 @@ renamed T past known m here m' e f next =
     let from : Renamed T known m m' grew = subst (λ (x : Moment). Renamed T known x m' grew) (sym e) (next, refl) in
     subst (λ (p : List (List ℕ)). Renamed T p m m' grew) (sym f) from
 
-pub turn_more : (T : Telling) (m : Moment) (b o b' o' : List ℕ) (s s' : State) (n : ℕ) (past : List (List ℕ)) → SoFar T m b o s n past → s.going ≡ true →
-    (turn : Turn T past s b b' o o' s') → SoFar T m b' o' s' (n + 1) (later past (moment_of s b o) turn.0)
-turn_more T m b o b' o' s s' n past (ms, t, e, k, is) goes turn =
-    let m' = moment_of s' b' o' in
-    let next = renamed T (past_in T [] m ms t) past (last_of m ms) (moment_of s b o) m' e is turn in
+pub turn_more : (T : Telling) (b o b' o' b'' o'' : List ℕ) (s s' : State) (n : ℕ) (past : List (List ℕ)) → SoFar T b o b' o' s n past → s.going ≡ true →
+    (turn : Turn T past s b' b'' o' o'' s') →
+    SoFar T b o b'' o'' s' (n + 1) (later past (record { state = s; block = b'; out = o' }) turn.0)
+turn_more T b o b' o' b'' o'' s s' n past (ms, t, e, k, is) goes turn =
+    let m = beginning b o in
+    let here : Moment = record { state = s; block = b'; out = o' } in
+    let m' : Moment = record { state = s'; block = b''; out = o'' } in
+    let next = renamed T (past_in T [] m ms t) past (last_of m ms) here m' e is turn in
     let w = more T [] m ms t m' next.0 (ap (λ (x : Moment). x.state.going) e ∙ goes) in
     (ms ++ (m' ∷ []), w.turns, last_more m ms m', simp length-append (omega arith), w.entries ∙ next.1)
 
@@ -382,92 +345,46 @@ ends T past m [] t h k = absurd (true_not_false (sym h ∙ k))
 ends T past m (m' ∷ []) t h k = last_turn T past m t.0.0 t.0.1 (unread_at m') m'.out m'.state t.0.2 k
 ends T past m (m' ∷ m'' ∷ ms) t h k = ends T (later past m t.0.0) m' (m'' ∷ ms) t.2 t.2.1 k
 
--- From a fresh moment to a capture's end: what left, in whatever blocks, is the text of what was unread and of all that arrived.
-finished : (T : Telling) (m : Moment) (ms : List Moment) (t : Turns T [] m ms) (e : Ending) → Fresh m → Finishes T [] m ms t e → Told T m ms t (last_of m ms).state
-finished T m ms t e fresh f =
+-- From its start to a capture's end: what left, in whatever blocks, is the text of the whole input.
+finished : (T : Telling) (block out : List ℕ) (ms : List Moment) (t : Turns T [] (beginning block out) ms) (e : Ending) → 40000 ≤ length out →
+    Finishes T [] (beginning block out) ms t e → Told T block out ms t (last_of (beginning block out) ms).state
+finished T block out ms t e room f =
+    let m = beginning block out in
     let last = closed T [] m ms t e f in
     let kept : take (last_of m ms).state.at (last_of m ms).out ≡ [] = ap (λ (k : ℕ). take k (last_of m ms).out) last.none in
-    let all = (all_passed T [] m ms t (omega (arith, fresh.none, fresh.room)) fresh.wrote).whole in
-    let before : take m.state.at m.out ≡ [] = ap (λ (k : ℕ). take k m.out) fresh.none in (
+    let all = (all_passed T [] m ms t (omega arith) (omega arith)).whole in (
       e,
       last.because,
       λ rest none.
           sym (append-nil (left_in T [] m ms t))
           ∙ ap (λ (l : List ℕ). left_in T [] m ms t ++ l) (sym kept)
           ∙ all
-          ∙ ap (λ (l : List ℕ). l ++ text_in T [] m ms t) before
-          ∙ put_all T [] m ms t e rest f none,
+          ∙ put_whole T m ms t e rest (front_part block 0 (omega arith)) f none,
     )
 
--- A program that ran from a fresh moment, and does not go on: all text that was put has left, but for what is still in the buffer; the bytes
--- that arrived and that left are as many as the system brought and was handed; and it told the whole input, or broke off.
-pub ran_from : (T : Telling) (m : Moment) (block out : List ℕ) (state : State) (r : Ran T m block out state) → Fresh m → state.going ≡ false →
-    let ms = r.2.0 in
-    let t = r.2.1 in
-    (left_in T [] m ms t ++ take state.at out ≡ text_in T [] m ms t)
-    × Accounted T m ms t state
-    × (Told T m ms t state ⊎ BrokenOff state)
-ran_from T m block out state r fresh stopped =
-    let ms = r.2.0 in
-    let t = r.2.1 in
-    let here = r.2.2 in
-    let last : (last_of m ms).state ≡ state = ap (λ (x : Moment). x.state) here in
-    let all = all_passed T [] m ms t (omega (arith, fresh.none, fresh.room)) fresh.wrote in
-    let before : take m.state.at m.out ≡ [] = ap (λ (k : ℕ). take k m.out) fresh.none in (
-      ap (λ (x : Moment). left_in T [] m ms t ++ take x.state.at x.out) (sym here) ∙ all.whole ∙ ap (λ (l : List ℕ). l ++ text_in T [] m ms t) before,
-      record {
-        brought = ap (λ (x : State). x.heard.total) (sym last) ∙ all_brought T [] m ms t fresh.heard;
-        handed = ap (λ (x : State). x.wrote.total) (sym last) ∙ all.handed;
-      },
-      ⊎_elim
-          (λ (f : (e : Ending) × Finishes T [] m ms t e). inl (subst (Told T m ms t) last (finished T m ms t f.0 fresh f.1)))
-          (λ (b : BrokenOff (last_of m ms).state). inr (subst BrokenOff last b))
-          (ends T [] m ms t fresh.goes (ap (λ (x : State). x.going) last ∙ stopped)),
-    )
-
--- nothing may follow any end
-nothing_unseen : (e : Ending) → Unseen e []
-nothing_unseen ending.Bad = tt
-nothing_unseen ending.Cut = refl
-nothing_unseen ending.End = refl
-
-whole_text : (T : Telling) (m : Moment) (block out : List ℕ) (state : State) (r : Ran T m block out state) → Fresh m → state.going ≡ false → (BrokenOff state → ⊥) →
-    left_in T [] m r.2.0 r.2.1 ≡ text_of T (unread_at m ++ (arrived_in T [] m r.2.0 r.2.1 ++ []))
-whole_text T m block out state r fresh stopped unbroken =
-    ⊎_elim
-    (λ (d : Told T m r.2.0 r.2.1 state). d.2 [] (nothing_unseen d.0))
-    (λ (b : BrokenOff state). absurd (unbroken b))
-    (ran_from T m block out state r fresh stopped).2
-
--- Two runs from one fresh moment that stopped and did not break off, and to which the same bytes arrived, in whatever blocks, have written the same.
-pub ran_once : (T : Telling) (m : Moment) (b o b' o' : List ℕ) (s s' : State) (r : Ran T m b o s) (q : Ran T m b' o' s') → Fresh m →
-    s.going ≡ false → s'.going ≡ false → (BrokenOff s → ⊥) → (BrokenOff s' → ⊥) →
-    arrived_in T [] m r.2.0 r.2.1 ≡ arrived_in T [] m q.2.0 q.2.1 → left_in T [] m r.2.0 r.2.1 ≡ left_in T [] m q.2.0 q.2.1
-ran_once T m b o b' o' s s' r q fresh stopped stopped' unbroken unbroken' same =
-    whole_text T m b o s r fresh stopped unbroken
-    ∙ ap (λ (l : List ℕ). text_of T (unread_at m ++ (l ++ []))) same
-    ∙ sym (whole_text T m b' o' s' q fresh stopped' unbroken')
-
--- nothing is unread at the beginning
-pub nothing_unread : (block : List ℕ) → unread_in block begun.unread ≡ []
-nothing_unread block = front_part block 0 (omega arith)
-
--- The same of a program from its beginning: it told all that arrived.
-pub ran : (T : Telling) (block out block' out' : List ℕ) (state : State) (r : Ran T (beginning block out) block' out' state) → 40000 ≤ length out → state.going ≡ false →
+-- The program that ran, and does not go on: all text that was put has left, but for what is still in the buffer; the bytes that arrived and that
+-- left are as many as the system brought and was handed; and it told the whole input, or broke off.
+pub ran : (T : Telling) (block out block' out' : List ℕ) (state : State) (r : Ran T block out block' out' state) → 40000 ≤ length out → state.going ≡ false →
     let m = beginning block out in
     let ms = r.2.0 in
     let t = r.2.1 in
     (left_in T [] m ms t ++ take state.at out' ≡ text_in T [] m ms t)
-    × Accounted T m ms t state
-    × (ToldAll T block out ms t state ⊎ BrokenOff state)
+    × Accounted T block out ms t state
+    × (Told T block out ms t state ⊎ BrokenOff state)
 ran T block out block' out' state r room stopped =
     let m = beginning block out in
-    let (whole, accounted, ended) = ran_from T m block' out' state r (record { goes = refl; none = refl; room = room; heard = omega arith; wrote = omega arith }) stopped in (
-      whole,
-      accounted,
+    let ms = r.2.0 in
+    let t = r.2.1 in
+    let here = r.2.2 in
+    let last : (last_of m ms).state ≡ state = ap (λ (x : Moment). x.state) here in
+    let all = all_passed T [] m ms t (omega arith) (omega arith) in (
+      ap (λ (x : Moment). left_in T [] m ms t ++ take x.state.at x.out) (sym here) ∙ all.whole,
+      record {
+        brought = ap (λ (x : State). x.heard.total) (sym last) ∙ all_brought T [] m ms t (omega arith);
+        handed = ap (λ (x : State). x.wrote.total) (sym last) ∙ all.handed;
+      },
       ⊎_elim
-          (λ (d : Told T m r.2.0 r.2.1 state).
-          inl (d.0, d.1, λ rest none. d.2 rest none ∙ ap (λ (u : List ℕ). text_of T (u ++ (arrived_in T [] m r.2.0 r.2.1 ++ rest))) (nothing_unread block)))
-          (λ (b : BrokenOff state). inr b)
-          ended,
+          (λ (f : (e : Ending) × Finishes T [] m ms t e). inl (subst (Told T block out ms t) last (finished T block out ms t f.0 room f.1)))
+          (λ (b : BrokenOff (last_of m ms).state). inr (subst BrokenOff last b))
+          (ends T [] m ms t refl (ap (λ (x : State). x.going) last ∙ stopped)),
     )

@@ -52,9 +52,6 @@ pub record Moment : Type 0 where
   pub block : List ℕ
   pub out : List ℕ
 
-abbrev pub moment_of : State → List ℕ → List ℕ → Moment
-moment_of state block out = record { state = state; block = block; out = out }
-
 abbrev pub unread_at : Moment → List ℕ
 unread_at m = unread_in m.block m.state.unread
 
@@ -121,47 +118,31 @@ Unseen ending.Bad rest = Unit {0}
 Unseen ending.Cut rest = rest ≡ []
 Unseen ending.End rest = rest ≡ []
 
--- n turns so far from the moment m, which took these entries
-abbrev pub SoFar : Telling → Moment → List ℕ → List ℕ → State → ℕ → List (List ℕ) → Type 0
-SoFar T m block out state n past =
-    (ms : List Moment)
-    × (t : Turns T [] m ms)
-    × (last_of m ms ≡ moment_of state block out)
-    × (length ms ≡ n)
-    × (past_in T [] m ms t ≡ past)
+-- The program: from nothing read and no text, turns up to a moment at which it does not go on, or more entries than can be counted.
+abbrev pub beginning : List ℕ → List ℕ → Moment
+beginning block out = record { state = begun; block = block; out = out }
 
--- Turns from the moment m up to one at which the program does not go on, or up to more entries than can be counted.
-abbrev pub Ran : Telling → Moment → List ℕ → List ℕ → State → Type 0
-Ran T m block out state =
+-- n turns so far, which took these entries
+abbrev pub SoFar : Telling → List ℕ → List ℕ → List ℕ → List ℕ → State → ℕ → List (List ℕ) → Type 0
+SoFar T block out block' out' state n past =
+    (ms : List Moment)
+    × (t : Turns T [] (beginning block out) ms)
+    × (last_of (beginning block out) ms ≡ record { state = state; block = block'; out = out' })
+    × (length ms ≡ n)
+    × (past_in T [] (beginning block out) ms t ≡ past)
+
+abbrev pub Ran : Telling → List ℕ → List ℕ → List ℕ → List ℕ → State → Type 0
+Ran T block out block' out' state =
     (n : ℕ)
     × (past : List (List ℕ))
-    × SoFar T m block out state n past
+    × SoFar T block out block' out' state n past
     × (n ≤ 0xffff_ffff_ffff_ffff)
     × (state.going ≡ true → n ≡ 0xffff_ffff_ffff_ffff)
 
--- The program as it begins: nothing was read, and no text is there.
-abbrev pub beginning : List ℕ → List ℕ → Moment
-beginning block out = moment_of begun block out
-
--- a moment from which a program may tell a capture: it goes on, there is room for a line and no text yet, and counts are counts
-pub record Fresh (m : Moment) : Type 0 where
-  pub goes : m.state.going ≡ true
-  pub none : m.state.at ≡ 0
-  pub room : 40000 ≤ length m.out
-  pub heard : m.state.heard.total ≡ counted m.state.heard.total 0
-  pub wrote : m.state.wrote.total ≡ counted m.state.wrote.total 0
-
--- What a program that ran has done, t its turns: all text that left is the text of what was unread and of all that arrived, and it ended because
--- the system said that the input ends, or at a bad length; or it broke off, because a read failed or the system did not take text.
-abbrev pub Told : (T : Telling) (m : Moment) (ms : List Moment) → Turns T [] m ms → State → Type 0
-Told T m ms t state =
-    (e : Ending)
-    × Because (Stop e) state.heard.said
-    × ((rest : List ℕ) → Unseen e rest → left_in T [] m ms t ≡ text_of T (unread_at m ++ (arrived_in T [] m ms t ++ rest)))
-
--- the same from the beginning, when nothing is unread
-abbrev pub ToldAll : (T : Telling) (block out : List ℕ) (ms : List Moment) → Turns T [] (beginning block out) ms → State → Type 0
-ToldAll T block out ms t state =
+-- What a program that ran has done, t its turns: all text that left is the text of the whole input, and it ended because the system said that
+-- the input ends, or at a bad length; or it broke off, because a read failed or the system did not take text.
+abbrev pub Told : (T : Telling) (block out : List ℕ) (ms : List Moment) → Turns T [] (beginning block out) ms → State → Type 0
+Told T block out ms t state =
     (e : Ending)
     × Because (Stop e) state.heard.said
     × ((rest : List ℕ) → Unseen e rest → left_in T [] (beginning block out) ms t ≡ text_of T (arrived_in T [] (beginning block out) ms t ++ rest))
@@ -170,6 +151,6 @@ abbrev pub BrokenOff : State → Type 0
 BrokenOff state = (state.heard.said ≡ Error) ⊎ (state.wrote.all ≡ false)
 
 -- as many bytes as reads brought have arrived, and as many as left were handed to the system
-pub record Accounted (T : Telling) (m : Moment) (ms : List Moment) (t : Turns T [] m ms) (state : State) : Type 0 where
-  pub brought : state.heard.total ≡ counted m.state.heard.total (length (arrived_in T [] m ms t))
-  pub handed : state.wrote.total ≡ counted m.state.wrote.total (length (left_in T [] m ms t))
+pub record Accounted (T : Telling) (block out : List ℕ) (ms : List Moment) (t : Turns T [] (beginning block out) ms) (state : State) : Type 0 where
+  pub brought : state.heard.total ≡ counted 0 (length (arrived_in T [] (beginning block out) ms t))
+  pub handed : state.wrote.total ≡ counted 0 (length (left_in T [] (beginning block out) ms t))

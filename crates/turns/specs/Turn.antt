@@ -62,11 +62,6 @@ pub record WentOn (out : List ℕ) (at : ℕ) (state r : State) : Type 0 where
   pub kept : at + 40000 ≤ length out → r.wrote.all ≡ state.wrote.all
   pub goes : r.going ≡ r.wrote.all
 
--- all text up to `at` is handed over, and the program is over
-pub record Ended (out : List ℕ) (at : ℕ) (state r : State) : Type 0 where
-  pub handed : r.wrote.total ≡ counted state.wrote.total (min at (length out))
-  pub done : r ≡ over state.heard r.wrote
-
 -- the last line is put at `at`, all text is handed over, and the program is over
 pub record Finished (out out' : List ℕ) (at : ℕ) (next : Next) (n : ℕ) (state r : State) : Type 0 where
   pub text : out' ≡ sets out at (last_text next n)

@@ -1,11 +1,11 @@
 // What every program over a capture does between two entries: it takes the next one, writes text where the next line
-// might not fit behind it, and puts the last line. What is added is the text of an entry, and a loop over these calls.
+// might not fit behind it, and puts the last line. A program adds the text of an entry, and a loop over these calls.
 #![tactic(auto)]
 
 ghost use Rattle.std.specs.Prelude.{◌≡◌, ◌-◌, min, length};
 ghost use Rattle.text.specs.Put.{Put};
 ghost use Rattle.standard_io.specs.System.{counted};
-ghost use Rattle.turns.specs.Turn.{begun, over, last_text, TakenFrom, WentOn, Ended, Finished};
+ghost use Rattle.turns.specs.Turn.{begun, over, last_text, TakenFrom, WentOn, Finished};
 
 use capture_input::{Next, Unread};
 use standard_io::{Heard, Wrote};
@@ -144,18 +144,11 @@ fn stopped(heard: Heard, wrote: Wrote) -> State
     }
 }
 
-// Writes the text, which ends at `at`, and is over.
-pub fn close(out: &[u8], at: usize, state: State) -> State
-    ensures { Ended out.now at state result }
-{
-    let heard = state.heard;
-    stopped(heard, flush(out, at, state.wrote))
-}
-
 // Where no entry comes next: puts the last line, after n whole entries, and writes all text.
 pub fn finish(out: &mut [u8], at: usize, next: Next, n: u64, state: State) -> State
     ensures { Finished out.old out.new at next n state result }
 {
+    let heard = state.heard;
     let end = put_last(out, at, next, n);
-    close(out, end, state)
+    stopped(heard, flush(out, end, state.wrote))
 }

@@ -17,7 +17,7 @@ use Rattle.packet.proofs.Laws.{framing_part_lem}
 use Rattle.failed_check.specs.Tell.{told_by, told_of, checks_of, outer_checks, framed_checks, Refuses}
 use Rattle.failed_check.specs.declared.Fault.{Fault}
 use Rattle.failed_check.specs.declared.Told.TheVariants.{Refused}
-use Rattle.failed_check.proofs.Laws.{refused_by_lem, told_back, told_front}
+use Rattle.failed_check.proofs.Laws.{refused_by, told_back, told_front}
 use Rattle.failed_check.proofs.tell.Goals as goal
 
 -- the framing layer's checks, of the part that the root layer's vector and end leave
@@ -32,7 +32,7 @@ outer-first E2009 d = refl
 refuses : (edition : Edition) (d : List ℕ) (r : Refusal) → root_of edition d ≡ layer.Refused r → Refuses (outer_checks edition d) r
 unfolding root_of
 refuses edition d r e =
-    refused_by_lem layer.Refused (outer_checks edition d) (layer.Layer (root_vector d) (length_of (root_part d))) r (λ s f. cc)
+    refused_by layer.Refused (outer_checks edition d) (layer.Layer (root_vector d) (length_of (root_part d))) r (λ s f. cc)
     (λ f. let z : ◌≡◌ {A = ℕ} 0 1 = cc in omega arith) e
 
 by-outer : (edition : Edition) (d : List ℕ) (f : Fault) → told_by (outer_checks edition d) ≡ Refused f → Refused f ≡ told_of edition d

@@ -10,13 +10,13 @@ use Rattle.framing.specs.Data.{data_checks, data_of, layer_of}
 use Rattle.framing.specs.declared.Data.TheVariants as layer
 use Rattle.failed_check.specs.Tell.{told_by, Refuses}
 use Rattle.failed_check.specs.declared.Told.TheVariants.{Readable}
-use Rattle.failed_check.proofs.Laws.{refused_by_lem, all_readable}
+use Rattle.failed_check.proofs.Laws.{refused_by, all_readable}
 use Rattle.failed_check.proofs.tell_data.Goals as goal
 
 refuses : (edition : Edition) (p : List ℕ) (r : Refusal) → data_of edition p ≡ layer.Refused r → Refuses (data_checks edition p) r
 unfolding data_of
 refuses edition p r e =
-    refused_by_lem layer.Refused (data_checks edition p) (layer_of p (length_of p)) r (λ s f. cc)
+    refused_by layer.Refused (data_checks edition p) (layer_of p (length_of p)) r (λ s f. cc)
     (λ f. let z : ◌≡◌ {A = ℕ} 0 1 = cc in omega arith) e
 
 readable : (edition : Edition) (p : List ℕ) (name values : ℕ) → data_of edition p ≡ layer.Layer name values → Readable ≡ told_by (data_checks edition p)

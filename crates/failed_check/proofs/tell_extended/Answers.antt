@@ -13,7 +13,7 @@ use Rattle.extended.specs.declared.Extended.{Extended}
 use Rattle.extended.specs.declared.Extended.TheVariants as layer
 use Rattle.failed_check.specs.Tell.{told_by, Refuses}
 use Rattle.failed_check.specs.declared.Told.TheVariants.{Readable}
-use Rattle.failed_check.proofs.Laws.{refused_by_lem, all_readable}
+use Rattle.failed_check.proofs.Laws.{refused_by, all_readable}
 use Rattle.failed_check.proofs.tell_extended.Goals as goal
 
 -- a layer that is found is no refusal
@@ -25,7 +25,7 @@ found-one p r =
 refuses : (whole : ℕ) (p : List ℕ) (r : Refusal) → extended_of whole p ≡ layer.Refused r → Refuses (extended_checks whole p) r
 unfolding extended_of
 refuses whole p r e =
-    refused_by_lem layer.Refused (extended_checks whole p) (layer_of p (length_of p) (vector_of Four p)) r (λ s f. cc) (found-one p r) e
+    refused_by layer.Refused (extended_checks whole p) (layer_of p (length_of p) (vector_of Four p)) r (λ s f. cc) (found-one p r) e
 
 readable : (whole : ℕ) (p : List ℕ) (x : Extended) → ((r : Refusal) → layer.Refused r ≡ x → ⊥) → extended_of whole p ≡ x →
     Readable ≡ told_by (extended_checks whole p)

@@ -43,7 +43,7 @@ use denote.Triple.Table.{entered, cited}
 use denote.Triple.Walked.{says, needs, Stays, stay_slice, stay_none, walk_of, Goes-none, Goes-slice, Walks, ends_at, walked, walk_Meets}
 use denote.Exit.{yes}
 use Rattle.turns.specs.declared.State.{State}
-use Rattle.turns.specs.Run.{beginning, Ran}
+use Rattle.turns.specs.Run.{Ran}
 use Rattle.follow_rules.specs.declared.Entry.{Entry}
 use Rattle.follow_rules.specs.declared.Followed.{Followed}
 use Rattle.follow_rules.specs.Table.{cleared}
@@ -146,9 +146,9 @@ module _ {M : Type 1} {𝓤 : Ura M} (𝓛 : Logic 𝓤) (mem : Memory → SProp
   abbrev Buffers : X → List (Item 𝓤)
   Buffers z = ‵ (flft block.κ block.q) ∷ ‵ (flft entry.κ entry.q) ∷ ‵ (flft out.κ out.q) ∷ ‵ (Own block (named 0) z.block) ∷ ‵ (Own entry (named 1) z.entry) ∷ ‵ (Own out (named 2) z.out) ∷ []
 
-  exits : (z : X) (s : State) → Carry state s → Ran (following t₀) (beginning block.ys out.ys) z.block z.out s → ent 𝓤 (⋆ 𝓛 (Buffers z)) (Post (state.val s))
+  exits : (z : X) (s : State) → Carry state s → Ran (following t₀) block.ys out.ys z.block z.out s → ent 𝓤 (⋆ 𝓛 (Buffers z)) (Post (state.val s))
   exits z s fs ran =
-      qed 𝓛 (Buffers z) ∵ suffices ! _ (ends_at 𝓛 f.ended stayed (f.clauses 𝓛 mem run) bound (state.val s) s (tt, (z.block, (z.entry, (z.out, tt)))) (tt, (z.block_long, (z.entry_long, (z.out-long, tt))))) $ says ! (subst (λ (t : List Entry). Ran (following t) (beginning block.ys out.ys) z.block z.out s) t₀-cleared ran) $
+      qed 𝓛 (Buffers z) ∵ suffices ! _ (ends_at 𝓛 f.ended stayed (f.clauses 𝓛 mem run) bound (state.val s) s (tt, (z.block, (z.entry, (z.out, tt)))) (tt, (z.block_long, (z.entry_long, (z.out-long, tt))))) $ says ! (subst (λ (t : List Entry). Ran (following t) block.ys out.ys z.block z.out s) t₀-cleared ran) $
       nothing ! $ move ! (3 ∷ 0 ∷ []) $ join ! $ move ! (2 ∷ 0 ∷ []) $ join ! $ move ! (1 ∷ 0 ∷ []) $ join ! $ frame ! $ nothing ! $ move ! (3 ∷ 0 ∷ []) $ fjoin ! $ move ! (2 ∷ 0 ∷ []) $ fjoin ! $ move ! (1 ∷ 0 ∷ []) $ fjoin ! $
       owned ! AR (Is AR) (Array-Makes 𝓛 R (LL.makes E.the_type E'.the_plain 𝓛) 1024) t₀ (val_a t₀) t₀-fits $ fjoin ! $ frame ! $ had ! state s fs $ done !
 
