@@ -214,9 +214,7 @@ impl Case {
         match &self.request {
             Request::Read(datagram) => (datagram.clone(), calls::reading(datagram)),
             Request::Pack(record, room) => (record.datagram(), calls::writing(record, *room)),
-            Request::Universe(_) | Request::Pick(..) => {
-                unreachable!("no case asks for an address or for a pattern")
-            }
+            Request::Universe(_) => unreachable!("no case asks for an address"),
         }
     }
 

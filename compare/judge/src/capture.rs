@@ -57,17 +57,6 @@ pub fn each_entry(
     Ok(Last { word, whole })
 }
 
-/// Takes the entry that an input has to begin with, and leaves what stands behind it. An input without
-/// that entry is cut, the empty one too, unless the length is bad.
-pub fn first_entry(input: &mut impl Read) -> io::Result<Result<Vec<u8>, Last>> {
-    let word = match Reader::new(input).read_entry()? {
-        Next::Entry(entry) => return Ok(Ok(entry.to_vec())),
-        Next::End | Next::Cut => "cut",
-        Next::Bad => "bad",
-    };
-    Ok(Err(Last { word, whole: 0 }))
-}
-
 /// What comes next in a capture.
 enum Next<'a> {
     Entry(&'a [u8]),

@@ -1,13 +1,9 @@
 //! Document 01's dump lines over the crate.
 
 use crate::oracle::{self, options};
-use crate::refusal::Refusal;
 use crate::wire::push_hex;
 use sacn::packet::*;
 use std::io::{self, Write};
-
-/// What the crate reads of an entry.
-pub type Reading<'a> = Result<AcnRootLayerProtocol<'a>, Refusal>;
 
 /// Writes the line of entry `n`. `text` is room for a name's hex digits, kept between calls.
 pub fn write_line(
@@ -16,19 +12,9 @@ pub fn write_line(
     datagram: &[u8],
     text: &mut Vec<u8>,
 ) -> io::Result<()> {
-    write_reading(out, n, &oracle::parse(datagram), text)
-}
-
-/// The same of an entry that was read before.
-pub fn write_reading(
-    out: &mut impl Write,
-    n: u64,
-    reading: &Reading,
-    text: &mut Vec<u8>,
-) -> io::Result<()> {
-    let packet = match reading {
+    let packet = match oracle::parse(datagram) {
         Ok(packet) => packet,
-        Err(refusal) => return writeln!(out, "{n} {}", oracle::refused(refusal)),
+        Err(refusal) => return writeln!(out, "{n} {}", oracle::refused(&refusal)),
     };
     match &packet.pdu.data {
         E131RootLayerData::DataPacket(data) => write_data(out, n, data, text),

@@ -1,7 +1,6 @@
 //! Asks the crate, and says by its answer what ours has to be: the same, but for request 07's exception.
 
 use crate::exception;
-use crate::pattern::Verdict;
 use crate::record::{Data, Discovery, Record, Sync};
 use crate::refusal::{self, Refusal};
 use crate::wire::hex;
@@ -20,7 +19,6 @@ pub enum Answer {
     PackRefused(Refusal),
     Address(Ipv4Addr, u16),
     NoAddress(Refusal),
-    Pattern(Verdict),
 }
 
 impl Answer {
@@ -33,7 +31,6 @@ impl Answer {
             // Nothing lent is altered by a refusal: document 01's rule, not the crate's.
             Answer::PackRefused(r) => refused(r) + " kept",
             Answer::Address(address, port) => format!("address {address} port {port}"),
-            Answer::Pattern(verdict) => verdict.line(),
         }
     }
 }

@@ -85,14 +85,3 @@ fn numbered(text: &str, count: usize) -> io::Result<Vec<String>> {
     };
     Ok(lines.iter().enumerate().map(unnumbered).collect())
 }
-
-/// The first line that is not the same in both; a text that has ended says nothing.
-pub fn first_difference<'a>(expected: &'a str, said: &'a str) -> (&'a str, &'a str) {
-    let (mut expected, mut said) = (expected.lines(), said.lines());
-    loop {
-        match (expected.next(), said.next()) {
-            (Some(a), Some(b)) if a == b => {}
-            (a, b) => return (a.unwrap_or("(no line)"), b.unwrap_or("(no line)")),
-        }
-    }
-}

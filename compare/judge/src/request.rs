@@ -1,7 +1,6 @@
 //! One question: encoded for the probe, and asked of the crate.
 
 use crate::oracle::{self, Answer};
-use crate::pattern;
 use crate::record::{big_endian, Data, Discovery, Record, Sync};
 
 pub enum Request {
@@ -9,8 +8,6 @@ pub enum Request {
     /// A record and the length of the buffer to write it into.
     Pack(Record, usize),
     Universe(u16),
-    /// A pattern of at most 255 bytes, and a name.
-    Pick(Vec<u8>, Vec<u8>),
 }
 
 impl Request {
@@ -22,17 +19,15 @@ impl Request {
             Request::Pack(Record::Sync(r), room) => encode_sync(r, *room),
             Request::Pack(Record::Discovery(r), room) => encode_discovery(r, *room),
             Request::Universe(universe) => [&[4], &universe.to_be_bytes()[..]].concat(),
-            Request::Pick(pattern, name) => encode_pick(pattern, name),
         }
     }
 
-    /// What ours has to answer, by the crate; about a pattern by the rule, for the crate has none.
+    /// What ours has to answer, by the crate.
     pub fn ask_crate(&self) -> Answer {
         match self {
             Request::Read(datagram) => oracle::read(datagram),
             Request::Pack(record, room) => oracle::pack(record, *room),
             Request::Universe(universe) => oracle::universe(*universe),
-            Request::Pick(pattern, name) => Answer::Pattern(pattern::judge(pattern, name)),
         }
     }
 }
@@ -73,9 +68,4 @@ fn encode_discovery(r: &Discovery, room: usize) -> Vec<u8> {
     push_name(&mut bytes, &r.name);
     bytes.extend(big_endian(&r.universes));
     bytes
-}
-
-fn encode_pick(pattern: &[u8], name: &[u8]) -> Vec<u8> {
-    let length = u8::try_from(pattern.len()).expect("a pattern's length is one byte");
-    [&[6, length], pattern, name].concat()
 }

@@ -1,10 +1,8 @@
 //! How often each record and each refusal was met, by which of the crate's tests lengths and counts were
-//! refused, and with which numbers of good bytes; and what was asked about patterns.
+//! refused, and with which numbers of good bytes.
 
 use crate::exception::{NOTHING_READ, NOTHING_WRITTEN};
 use crate::oracle::{self, Answer};
-use crate::pattern::{Verdict, NOT_UTF8, TOO_LONG};
-use crate::pattern_tally::PatternTally;
 use crate::refusal::NAMED;
 use crate::request::Request;
 use std::collections::{BTreeMap, BTreeSet};
@@ -18,14 +16,12 @@ pub enum Met {
     PackRefused(u8),
     Address,
     NoAddress(u8),
-    Picks(bool),
-    PatternRefused(u8),
 }
 
 use Met::*;
 
 /// All that can occur. What is met and not listed here is a fault, too.
-const EXPECTED: [Met; 52] = [
+const EXPECTED: [Met; 48] = [
     Read("data"),
     Read("sync"),
     Read("disc"),
@@ -74,10 +70,6 @@ const EXPECTED: [Met; 52] = [
     PackRefused(27),
     Address,
     NoAddress(30),
-    Picks(true),
-    Picks(false),
-    PatternRefused(TOO_LONG),
-    PatternRefused(NOT_UTF8),
 ];
 
 /// What document 01 writes down and no input reaches, with the reason.
@@ -128,16 +120,12 @@ pub struct Tally {
     met: BTreeMap<Met, u64>,
     lengths: BTreeMap<&'static str, u64>,
     good_bytes: BTreeMap<Met, BTreeSet<u32>>,
-    patterns: PatternTally,
 }
 
 impl Tally {
     pub fn count(&mut self, request: &Request, answer: &Answer) {
         let met = met(request, answer);
         *self.met.entry(met).or_default() += 1;
-        if let (Request::Pick(pattern, name), Answer::Pattern(verdict)) = (request, answer) {
-            self.patterns.count(pattern, name, *verdict);
-        }
         if let (Request::Read(datagram), ReadRefused(number, _)) = (request, met) {
             if LENGTHS.contains(&number) {
                 let words = oracle::words(datagram).expect("the words of a refused length");
@@ -201,7 +189,6 @@ impl Tally {
         }
         let lengths = self.print_lengths();
         let good_bytes = self.print_good_bytes();
-        let patterns = self.patterns.print();
         println!("cannot occur:");
         for (what, why) in UNREACHABLE {
             println!("  {what}: {why}");
@@ -216,7 +203,7 @@ impl Tally {
         for what in &strange {
             println!("met, and it should not occur: {what}");
         }
-        missed.is_empty() && strange.is_empty() && lengths && good_bytes && patterns
+        missed.is_empty() && strange.is_empty() && lengths && good_bytes
     }
 }
 
@@ -231,8 +218,6 @@ pub fn met(request: &Request, answer: &Answer) -> Met {
         Answer::PackRefused(r) => PackRefused(r.number),
         Answer::Address(..) => Address,
         Answer::NoAddress(r) => NoAddress(r.number),
-        Answer::Pattern(Verdict::Picks(picks)) => Picks(*picks),
-        Answer::Pattern(Verdict::Refused(number)) => PatternRefused(*number),
     }
 }
 
@@ -244,8 +229,5 @@ fn name(met: Met) -> String {
         PackRefused(number) => format!("pack refused {number}"),
         Address => "universe address".to_string(),
         NoAddress(number) => format!("universe refused {number}"),
-        Picks(true) => "pattern picks".to_string(),
-        Picks(false) => "pattern does not pick".to_string(),
-        PatternRefused(number) => format!("pattern refused {number}"),
     }
 }

@@ -3,12 +3,11 @@
 //! follow-judge COUNT SEED PROGRAM [WORDS...]: COUNT random captures from SEED after the fixed ones;
 //! PROGRAM and its words start follow.
 
-use judge::arguments;
 use judge::beside::Beside;
 use judge::follow::{self, Heard};
 use judge::follow_tally::FollowTally;
 use judge::inputs::{scenes, script};
-use judge::probe::{first_difference, Probe};
+use judge::probe::Probe;
 use judge::{capture, oracle};
 use std::io;
 use std::process::ExitCode;
@@ -93,17 +92,39 @@ impl Judge {
     }
 }
 
+/// The first line that is not the same in both; a text that has ended says nothing.
+fn first_difference<'a>(expected: &'a str, said: &'a str) -> (&'a str, &'a str) {
+    let (mut expected, mut said) = (expected.lines(), said.lines());
+    loop {
+        match (expected.next(), said.next()) {
+            (Some(a), Some(b)) if a == b => {}
+            (a, b) => return (a.unwrap_or("(no line)"), b.unwrap_or("(no line)")),
+        }
+    }
+}
+
 fn main() -> io::Result<ExitCode> {
-    let words = arguments::read("follow-judge")?;
+    let words: Vec<String> = std::env::args().skip(1).collect();
+    let (count, seed) = match words.get(..2) {
+        Some([count, seed]) if words.len() > 2 => (count.parse(), seed.parse()),
+        _ => {
+            return Err(io::Error::other(
+                "follow-judge COUNT SEED PROGRAM [WORDS...]",
+            ))
+        }
+    };
+    let (Ok(count), Ok(seed)) = (count, seed) else {
+        return Err(io::Error::other("COUNT and SEED are numbers"));
+    };
     oracle::keep_panics_of_crate();
     let mut judge = Judge {
-        program: words.program,
+        program: Probe(words[2..].to_vec()),
         tally: FollowTally::default(),
         captures: 0,
         lines: 0,
         differences: 0,
     };
-    judge.run(words.count, words.seed)?;
+    judge.run(count, seed)?;
     let complete = judge.tally.print();
     println!(
         "{} captures followed, {} lines compared, {} differences",

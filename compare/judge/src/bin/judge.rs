@@ -1,10 +1,9 @@
-//! Compares our probe program with the crate, and on patterns with request 08's rule.
+//! Compares our probe program with the crate.
 //!
-//! judge COUNT SEED PROGRAM [WORDS...]: COUNT random draws after the systematic inputs, from SEED, and then
-//! a fixed number of patterns and a tenth of COUNT; PROGRAM and its words start the probe.
+//! judge COUNT SEED PROGRAM [WORDS...]: COUNT random draws after the systematic inputs, from SEED;
+//! PROGRAM and its words start the probe.
 
-use judge::arguments;
-use judge::inputs::{self, patterns, Draw, Sink};
+use judge::inputs::{self, Draw};
 use judge::oracle::{self, Answer};
 use judge::probe::Probe;
 use judge::random::Random;
@@ -31,7 +30,7 @@ struct Judge {
 }
 
 impl Judge {
-    /// Works out what is expected; what the crate reads is written back as well.
+    /// Asks the crate; what it reads is written back as well.
     fn take(&mut self, request: Request) -> io::Result<()> {
         let answer = request.ask_crate();
         self.tally.count(&request, &answer);
@@ -47,7 +46,7 @@ impl Judge {
         Ok(())
     }
 
-    /// Asks the probe what was taken since the last time.
+    /// Asks the probe what the crate was asked since the last time.
     fn compare(&mut self) -> io::Result<()> {
         let lines = self.probe.ask(&self.requests)?;
         for ((request, expected), line) in self.requests.iter().zip(&self.expected).zip(&lines) {
@@ -58,7 +57,7 @@ impl Judge {
             self.differences += 1;
             if self.differences <= SHOWN {
                 println!("request  {}", hex(request));
-                println!("expected {expected}");
+                println!("crate    {expected}");
                 println!("probe    {line}");
             }
         }
@@ -67,19 +66,14 @@ impl Judge {
         Ok(())
     }
 
-    /// Takes all that a family of inputs hands out.
-    fn take_all(&mut self, family: impl FnOnce(&mut Sink)) -> io::Result<()> {
+    fn run(&mut self, count: u64) -> io::Result<()> {
         let mut result = Ok(());
-        family(&mut |request| {
+        inputs::systematic(&mut |request| {
             if result.is_ok() {
                 result = self.take(request);
             }
         });
-        result
-    }
-
-    fn run(&mut self, count: u64, seed: u64) -> io::Result<()> {
-        self.take_all(inputs::systematic)?;
+        result?;
         for _ in 0..count {
             let request = if self.draw.0.once_in(4) {
                 let record = self.draw.record();
@@ -90,24 +84,30 @@ impl Judge {
             };
             self.take(request)?;
         }
-        self.take_all(|sink| patterns::all(count / 10, seed, sink))?;
         self.compare()
     }
 }
 
 fn main() -> io::Result<ExitCode> {
-    let words = arguments::read("judge")?;
+    let words: Vec<String> = std::env::args().skip(1).collect();
+    let (count, seed) = match words.get(..2) {
+        Some([count, seed]) if words.len() > 2 => (count.parse(), seed.parse()),
+        _ => return Err(io::Error::other("judge COUNT SEED PROGRAM [WORDS...]")),
+    };
+    let (Ok(count), Ok(seed)) = (count, seed) else {
+        return Err(io::Error::other("COUNT and SEED are numbers"));
+    };
     oracle::keep_panics_of_crate();
     let mut judge = Judge {
-        probe: words.program,
-        draw: Draw(Random::new(words.seed)),
+        probe: Probe(words[2..].to_vec()),
+        draw: Draw(Random::new(seed)),
         tally: Tally::default(),
         requests: Vec::new(),
         expected: Vec::new(),
         compared: 0,
         differences: 0,
     };
-    judge.run(words.count, words.seed)?;
+    judge.run(count)?;
     let complete = judge.tally.print();
     println!(
         "{} compared, {} differences",

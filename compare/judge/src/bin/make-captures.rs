@@ -4,15 +4,15 @@
 //! follow one for each number of sources.
 //! make-captures sample FOLDER: the fixed sample of dump, sample.capture, and the lines expected of it,
 //! sample.lines, which are the crate's answers (`refusal` says how a place is found) but for packets without
-//! a start code (`exception`); that of follow, follow.capture, with its lines by request 02's rules,
-//! follow.lines; and that of pick, pick.capture, with its lines by request 08's, pick.lines.
+//! a start code (`exception`); and that of follow, follow.capture, with its lines by request 02's rules,
+//! follow.lines.
 
-use judge::inputs::{self, picks, script, Draw};
+use judge::inputs::{self, script, Draw};
 use judge::random::Random;
 use judge::record::{Data, Discovery, Record, Sync};
 use judge::request::Request;
 use judge::tally::{met, Met};
-use judge::{capture, dump, follow, oracle, pattern};
+use judge::{capture, dump, follow, oracle};
 use sacn::packet::AcnRootLayerProtocol;
 use std::collections::BTreeMap;
 use std::fs::File;
@@ -194,14 +194,6 @@ fn follow_sample(folder: &Path) -> io::Result<()> {
     lines.flush()
 }
 
-fn pick_sample(folder: &Path) -> io::Result<()> {
-    let input = picks::sample();
-    create(folder, "pick.capture")?.write_all(&input)?;
-    let mut lines = create(folder, "pick.lines")?;
-    pattern::write_text(&mut lines, &input, |_| {})?;
-    lines.flush()
-}
-
 fn main() -> io::Result<()> {
     oracle::keep_panics_of_crate();
     let words: Vec<String> = std::env::args().skip(1).collect();
@@ -209,8 +201,7 @@ fn main() -> io::Result<()> {
         [what, folder] if what == "speed" => speed(Path::new(folder)),
         [what, folder] if what == "sample" => {
             sample(Path::new(folder))?;
-            follow_sample(Path::new(folder))?;
-            pick_sample(Path::new(folder))
+            follow_sample(Path::new(folder))
         }
         _ => Err(io::Error::other("make-captures speed|sample FOLDER")),
     }

@@ -1,20 +1,16 @@
 //! The inputs: families that go through all cases near a boundary, and random ones from a seed. Those of
-//! the follower and of the program that picks are whole captures.
+//! the follower are whole captures.
 
 mod bytes;
 mod cuts;
-mod ends;
 mod lengths;
 mod lists;
 mod names;
 mod papers;
-pub mod patterns;
-pub mod picks;
 mod random;
 mod samples;
 pub mod scenes;
 pub mod script;
-pub mod slow;
 mod writes;
 
 pub use random::Draw;
@@ -45,7 +41,7 @@ pub fn datagrams(sink: &mut dyn FnMut(Vec<u8>)) {
     lists::values(sink);
 }
 
-/// All requests that do not depend on a seed, but for those about patterns.
+/// All requests that do not depend on a seed.
 pub fn systematic(sink: &mut Sink) {
     datagrams(&mut |datagram| sink(Request::Read(datagram)));
     names::inside_fields(&mut |datagram| sink(Request::Read(datagram)));

@@ -1,7 +1,6 @@
 //! Captures for the follower from a seed: a few sources that send well and badly, or more of them than
 //! the table holds.
 
-use super::ends;
 use super::random::Draw;
 use super::script::{self, EDGES};
 use crate::capture;
@@ -21,6 +20,9 @@ const CROWD_PACKETS: usize = 1500;
 /// The fewest packets of another capture, and how many more there may be.
 const FEWEST: usize = 40;
 const MORE: usize = 300;
+
+/// Lengths that are too large or not in the shortest form.
+const BAD_LENGTHS: [&[u8]; 4] = [b"\x80\x00", b"\x81\x40", b"\xff\x7f", b"\x80\x80\x01"];
 
 /// A source, and the number it sent last.
 struct Sender {
@@ -202,13 +204,21 @@ impl Scene {
         datagram
     }
 
+    /// Stops inside an entry or its length.
     fn cut(&mut self) {
+        let whole = self.capture.len();
         let datagram = self.data().datagram();
-        ends::cut(&mut self.capture, datagram, &mut self.draw.0);
+        self.put(&datagram);
+        let more = self.capture.len() - whole;
+        self.capture
+            .truncate(whole + 1 + self.draw.0.below(more - 1));
     }
 
+    /// Puts a bad length, and behind it an entry that nobody may follow.
     fn bad(&mut self) {
+        let length = self.draw.0.pick(&BAD_LENGTHS);
+        self.capture.extend(length);
         let datagram = self.data().datagram();
-        ends::bad(&mut self.capture, datagram, &mut self.draw.0);
+        self.put(&datagram);
     }
 }

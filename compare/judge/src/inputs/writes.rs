@@ -19,7 +19,7 @@ pub fn rooms(sink: &mut Sink) {
     }
 }
 
-pub fn with_name(record: &Record, name: &[u8]) -> Record {
+fn with_name(record: &Record, name: &[u8]) -> Record {
     let mut record = record.clone();
     match &mut record {
         Record::Data(r) => r.name = name.to_vec(),
