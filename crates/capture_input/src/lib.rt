@@ -63,7 +63,7 @@ fn shift(block: &mut [u8], start: usize, len: usize)
 }
 
 // Reads until the block's front is an entry, or can become none. Its first len bytes are unread.
-fn read_entry(block: &mut [u8], len: usize, before: Heard) -> Filled
+fn read_entry(rt: &impl Input, block: &mut [u8], len: usize, before: Heard) -> Filled
     requires { len ≤ length block.old }
     ensures more { More (take len block.old) (unread_in block.new result.unread) before result.heard }
     ensures enough { Enough result.heard.said (front_of (unread_in block.new result.unread)) }
@@ -71,7 +71,7 @@ fn read_entry(block: &mut [u8], len: usize, before: Heard) -> Filled
     let mut len = len;
     let mut heard = standard_io::quiet(before);
     while waits(&block[0..len]) {
-        heard = standard_io::read_more(block, len, heard);
+        heard = standard_io::read_more(rt, block, len, heard);
         let more = standard_io::reached(heard, len);
         if more <= len {
             return Filled {
@@ -88,18 +88,18 @@ fn read_entry(block: &mut [u8], len: usize, before: Heard) -> Filled
 }
 
 // As many bytes as a next entry needs, if they are to be had.
-fn fill(block: &mut [u8], unread: Unread, before: Heard) -> Filled
+fn fill(rt: &impl Input, block: &mut [u8], unread: Unread, before: Heard) -> Filled
     ensures more { More (unread_in block.old unread) (unread_in block.new result.unread) before result.heard }
     ensures enough { Enough result.heard.said (front_of (unread_in block.new result.unread)) }
 {
     let start = unread.start;
     let len = wire::part(block, start, unread.len).len();
     if len == 0 {
-        return read_entry(block, 0, before);
+        return read_entry(rt, block, 0, before);
     }
     if waits(&block[start..start + len]) {
         shift(block, start, len);
-        return read_entry(block, len, before);
+        return read_entry(rt, block, len, before);
     }
     Filled {
         unread,
@@ -150,10 +150,16 @@ fn take_entry(block: &[u8], entry: &mut [u8], unread: Unread, heard: Heard) -> S
 }
 
 // Takes the next entry into `entry`. What is left unread is in `block`, where more input is read if need be.
-pub fn next_entry(block: &mut [u8], entry: &mut [u8], unread: Unread, before: Heard) -> Step
+pub fn next_entry(
+    rt: &impl Input,
+    block: &mut [u8],
+    entry: &mut [u8],
+    unread: Unread,
+    before: Heard,
+) -> Step
     ensures { Taken (unread_in block.old unread) result.next before result.heard (unread_in block.new result.unread) entry.old entry.new }
 {
-    let filled = fill(block, unread, before);
+    let filled = fill(rt, block, unread, before);
     let left = filled.unread;
     let heard = filled.heard;
     if standard_io::failed(heard) {

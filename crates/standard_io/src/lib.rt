@@ -1,10 +1,12 @@
-// Reads from standard input and writes to standard output. The kit's contracts say how many bytes a call may have moved; that a
+// Reads from standard input and writes to standard output. std's contracts say how many bytes a call may have moved; that a
 // call was made no contract can say. So what the system answered stands in values that only this crate can make, each
 // from the one before it, with a count of all bytes so far.
 #![tactic(auto)]
 
 ghost use Rattle.std.specs.Prelude.{◌≡◌, ◌+◌, ◌<◌, length, take};
 ghost use Rattle.standard_io.specs.System.{counted, said_of, reached_by, is_error, Arrived, nothing_heard, quiet_after, heard_after, nothing_written, kept_after};
+
+use std::io::Read;
 
 // To a read: so many bytes are in the block now, the input ends, or an error. Nothing is said where none was made.
 #[derive(Clone, Copy)]
@@ -88,6 +90,7 @@ pub fn failed(heard: Heard) -> bool
 }
 
 // What an answer to a read says, of which `count` bytes count, behind the first len.
+#[tactic(auto, using(crate::proofs::Laws::ended_read, crate::proofs::Laws::bytes_read))]
 fn answered(got: isize, count: usize, len: usize) -> Said
     requires { len + count < 0x1_0000_0000_0000_0000 }
     ensures { result ≡ said_of got count len }
@@ -102,25 +105,26 @@ fn answered(got: isize, count: usize, len: usize) -> Said
     Said::Bytes { len }
 }
 
-// Reads once, behind the first len bytes of the block. A block with no room is an error: a read of no bytes would
-// look like the input's end.
-fn ask(block: &mut [u8], len: usize) -> Said
+// Reads once, behind the first len bytes of the block, by a reader that takes nothing ahead. A block with no room is
+// an error: a read of no bytes would look like the input's end.
+fn ask(rt: &impl Input, block: &mut [u8], len: usize) -> Said
     ensures block_unchanged { take len block.new ≡ take len block.old }
     ensures arrived { Arrived len (length block.old) result }
 {
     if block.len() <= len {
         return Said::Error;
     }
-    let got = libc::read(libc::STDIN_FILENO, &mut block[len..]);
-    let count = io::count(got, &block[len..]);
-    answered(got, count, len)
+    match rt.reader().read(&mut block[len..]) {
+        Ok(count) => answered(count as isize, count, len),
+        Err(_) => answered(-1, 0, len),
+    }
 }
 
-pub fn read_more(block: &mut [u8], len: usize, heard: Heard) -> Heard
+pub fn read_more(rt: &impl Input, block: &mut [u8], len: usize, heard: Heard) -> Heard
     ensures block_unchanged { take len block.new ≡ take len block.old }
     ensures arrived { Arrived len (length block.old) result.said × (result ≡ heard_after heard result.said len) }
 {
-    let said = ask(block, len);
+    let said = ask(rt, block, len);
     let more = reach(said, len) - len;
     Heard {
         said,
@@ -154,12 +158,17 @@ pub fn took_all(wrote: Wrote) -> bool
     wrote.all
 }
 
-pub fn write(text: &[u8], wrote: Wrote) -> Wrote
+// Tells on standard error, in a line, what failed. Where that fails too, there is nobody left to tell.
+pub fn tell_failure(rt: &impl Eprint, failure: &str) {
+    let _ = rt.eprintln(failure);
+}
+
+pub fn write(rt: &(impl Print + Eprint), text: &[u8], wrote: Wrote) -> Wrote
     ensures { result.total ≡ counted wrote.total (length text.now) }
 {
-    let all = io::write_all(libc::STDOUT_FILENO, text);
+    let all = rt.write_all(text).is_ok();
     if !all {
-        io::write_all(libc::STDERR_FILENO, b"write failed\n");
+        tell_failure(rt, "write failed");
     }
     Wrote {
         all,

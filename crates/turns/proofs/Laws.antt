@@ -6,8 +6,6 @@ use mathlib.Core.Bool.{true}
 use native.Mathlib.Omega.{arith}
 use lib.ListN.{length, take, drop, length-append, length-drop}
 use lib.Seq.{sets, length-sets, length-take-le}
-use denote.Enum.Declared.{tag_of}
-use types.Run.{OneOf, miss}
 use Rattle.refusal.proofs.Tests.{never}
 use Rattle.wire.specs.Fields.{part_of}
 use Rattle.capture.specs.Entry.{front_of}
@@ -27,7 +25,6 @@ use Rattle.capture_input.specs.Entries.{unread_in, waits_at, stopped}
 use Rattle.capture_input.specs.declared.Next.{Next}
 use Rattle.capture_input.specs.declared.Next.TheVariants.{Entry, Stop, Failed}
 use Rattle.capture_input.proofs.Laws.{put_part}
-use Rattle.capture_input.specs.contracts.Next.{the_type}
 use Rattle.turns.specs.declared.State.{State}
 use Rattle.turns.specs.declared.Found.{Found}
 use Rattle.turns.specs.Run.{grown, later}
@@ -145,23 +142,23 @@ last_behind front at end n e before between after state went few short put done 
       done = done.done ∙ ap (λ (h : Heard). over h went.wrote) (sym heard);
     }
 
--- what `finish` puts, where what was found does not have the tag of an entry
+-- what `finish` puts, where what was found is no entry
 last_put : (T : Telling) (past : List (List ℕ)) (n at : ℕ) (next : Next) (before after : List ℕ) (was : Wrote) (went : State) → n < 0x1_0000_0000_0000_0000 →
-    ((e : Ending) → T.last past e ≡ last_line e n) → OneOf (1 ∷ 2 ∷ []) (tag_of the_type next) → after ≡ sets before at (last_text next n) →
+    ((e : Ending) → T.last past e ≡ last_line e n) → ((m : ℕ) → next ≡ Entry m → ⊥) → after ≡ sets before at (last_text next n) →
     went.wrote.total ≡ counted was.total (end_of (length before) at (last_text next n)) → went ≡ over went.heard went.wrote →
     Last T past next at before after was went
-last_put T past n at (Entry m) before after was went few is tag text handed done = absurd (miss (1 ∷ 2 ∷ []) 0 tt tag)
-last_put T past n at (Stop e) before after was went few is tag text handed done =
+last_put T past n at (Entry m) before after was went few is none text handed done = absurd (none m refl)
+last_put T past n at (Stop e) before after was went few is none text handed done =
     rw (is e) (record { short = omega (arith, last_fits e n few); text = text; handed = handed; done = done })
-last_put T past n at Failed before after was went few is tag text handed done = record { short = omega arith; text = text; handed = handed; done = done }
+last_put T past n at Failed before after was went few is none text handed done = record { short = omega arith; text = text; handed = handed; done = done }
 
 -- A turn that finds no entry, of a program whose last text is the last line after n entries.
 pub finished_turn : (T : Telling) (past : List (List ℕ)) (n : ℕ) (state went : State) (found : Found) (block block' entry entry' before after : List ℕ) →
     n < 0x1_0000_0000_0000_0000 → ((e : Ending) → T.last past e ≡ last_line e n) → TakenFrom block block' entry entry' state found →
-    OneOf (1 ∷ 2 ∷ []) (tag_of the_type found.next) → Finished before after found.state.at found.next n found.state went →
+    ((m : ℕ) → found.next ≡ Entry m → ⊥) → Finished before after found.state.at found.next n found.state went →
     Turn T past state block block' before after went
-finished_turn T past n state went found block block' entry entry' before after few is t tag put =
+finished_turn T past n state went found block block' entry entry' before after few is t none put =
     let heard : went.heard ≡ found.state.heard = ap (λ (x : State). x.heard) put.done in
     let done : went ≡ over went.heard went.wrote = put.done ∙ ap (λ (h : Heard). over h went.wrote) (sym heard) in
     last_turn T past state went found found.next block block' entry entry' before after t refl heard
-    (last_put T past n state.at found.next before after state.wrote went few is tag (rw t.1 at put.text) (rw (t.1, t.2) at put.handed) done)
+    (last_put T past n state.at found.next before after state.wrote went few is none (rw t.1 at put.text) (rw (t.1, t.2) at put.handed) done)

@@ -51,12 +51,12 @@ pub fn begin() -> State
 }
 
 // Takes the next entry into `entry`, if there is one. What is left unread is in `block`.
-pub fn take(block: &mut [u8], entry: &mut [u8], state: State) -> Found
+pub fn take(rt: &impl Input, block: &mut [u8], entry: &mut [u8], state: State) -> Found
     ensures { TakenFrom block.old block.new entry.old entry.new state result }
 {
     let unread = state.unread;
     let wrote = state.wrote;
-    let step = capture_input::next_entry(block, entry, unread, state.heard);
+    let step = capture_input::next_entry(rt, block, entry, unread, state.heard);
     let next = step.next;
     let left = step.unread;
     let heard = step.heard;
@@ -73,13 +73,13 @@ pub fn take(block: &mut [u8], entry: &mut [u8], state: State) -> Found
 }
 
 // Hands the first `at` bytes of the text to the system.
-fn flush(out: &[u8], at: usize, wrote: Wrote) -> Wrote
+fn flush(rt: &(impl Print + Eprint), out: &[u8], at: usize, wrote: Wrote) -> Wrote
     ensures { result.total ≡ counted wrote.total (min at (length out.now)) }
 {
     if out.len() < at {
-        return standard_io::write(out, wrote);
+        return standard_io::write(rt, out, wrote);
     }
-    standard_io::write(&out[0..at], wrote)
+    standard_io::write(rt, &out[0..at], wrote)
 }
 
 // How much of the buffer is free behind text that ends at `at`.
@@ -91,7 +91,7 @@ fn free(room: usize, at: usize) -> usize
 
 // After a line that ends at `at`: writes the text where the next line might not fit behind it. The program goes on
 // unless the system did not take all text.
-pub fn go_on(out: &[u8], at: usize, state: State) -> State
+pub fn go_on(rt: &(impl Print + Eprint), out: &[u8], at: usize, state: State) -> State
     ensures { WentOn out.now at state result }
 {
     let unread = state.unread;
@@ -107,7 +107,7 @@ pub fn go_on(out: &[u8], at: usize, state: State) -> State
             going,
         };
     }
-    let wrote = flush(out, at, state.wrote);
+    let wrote = flush(rt, out, at, state.wrote);
     let going = standard_io::took_all(wrote);
     State {
         unread,
@@ -119,13 +119,13 @@ pub fn go_on(out: &[u8], at: usize, state: State) -> State
 }
 
 // The last line, after n whole entries; none after a read that failed.
-fn put_last(out: &mut [u8], at: usize, next: Next, n: u64) -> usize
+fn put_last(rt: &impl Eprint, out: &mut [u8], at: usize, next: Next, n: u64) -> usize
     ensures { Put out.old out.new at result (last_text next n) }
 {
     match next {
         Next::Stop(ending) => line::put_last_line(out, at, ending, n),
         Next::Failed => {
-            io::write_all(libc::STDERR_FILENO, b"read failed\n");
+            standard_io::tell_failure(rt, "read failed");
             text::put(out, at, b"")
         }
         Next::Entry { len: _ } => text::put(out, at, b""),
@@ -145,10 +145,17 @@ fn stopped(heard: Heard, wrote: Wrote) -> State
 }
 
 // Where no entry comes next: puts the last line, after n whole entries, and writes all text.
-pub fn finish(out: &mut [u8], at: usize, next: Next, n: u64, state: State) -> State
+pub fn finish(
+    rt: &(impl Print + Eprint),
+    out: &mut [u8],
+    at: usize,
+    next: Next,
+    n: u64,
+    state: State,
+) -> State
     ensures { Finished out.old out.new at next n state result }
 {
     let heard = state.heard;
-    let end = put_last(out, at, next, n);
-    stopped(heard, flush(out, end, state.wrote))
+    let end = put_last(rt, out, at, next, n);
+    stopped(heard, flush(rt, out, end, state.wrote))
 }
