@@ -14,15 +14,15 @@ kind_of = settled (λ k a r e p. p)
 pub plain_of : Settled Parts.plain.plain_of.Reads.Learnt
 plain_of = settled (λ k a r e p. p)
 
--- view: the calls over a viewer are walked
-pub view : SettledBy View.view.ended (λ M. View.view.clauses) (λ k r. r)
-view w k a r s e f g h = facts w.𝓤 (λ p q i. record { datagram = (p.0 ∙ sym q.0) i; name = (p.1 ∙ sym q.1) i; values = (p.2 ∙ sym q.2) i })
+-- view
+pub view : Settled View.view.Reads.Learnt
+view k a r s e f p q = λ i. record { datagram = (p.0 ∙ sym q.0) i; name = (p.1 ∙ sym q.1) i; values = (p.2 ∙ sym q.2) i }
 
-pub name : SettledBy View.name.ended (λ M. View.name.clauses) (λ k r. r.now)
-name w k a r s e f g h = facts w.𝓤 (λ p q. p ∙ sym q)
+pub name : SettledAs View.name.Reads.Learnt (λ k r e. r.now)
+name = settled_as (λ k a r e p. p)
 
-pub values : SettledBy View.values.ended (λ M. View.values.clauses) (λ k r. r.now)
-values w k a r s e f g h = facts w.𝓤 (λ p q. p ∙ sym q)
+pub values : SettledAs View.values.Reads.Learnt (λ k r e. r.now)
+values = settled_as (λ k a r e p. p)
 
 pub viewed_name : SettledAs View.viewed_name.Reads.Learnt (λ k r e. r.now)
 viewed_name = settled_as (λ k a r e p. p)

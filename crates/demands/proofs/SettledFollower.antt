@@ -1,11 +1,10 @@
 -- Demand 1 for the calls that follow sequence numbers: two results that satisfy a call's contract are equal, and so are two tables at exit.
 -- Assumes nothing.
-use mathlib.Core.Path.{sym, ◌∙◌}
 use Rattle.sequence.proofs as Sequence
 use Rattle.follow_rules.proofs as FollowRules
 use Rattle.follower.proofs as Follower
 use Rattle.follower.specs.Follow.{after}
-use Rattle.demands.proofs.Contracts.{Settled, settled, SettledLent, facts}
+use Rattle.demands.proofs.Contracts.{Settled, settled, SettledAs, settled_as}
 
 -- sequence
 pub difference : Settled Sequence.difference.Reads.Learnt
@@ -39,12 +38,12 @@ decide = settled (λ k a r e p. p)
 pub stores_within : Settled FollowRules.stores_within.Reads.Learnt
 stores_within = settled (λ k a r e p. p)
 
--- follower: the calls over a table are walked
+-- follower
 pub listen : Settled Follower.listen.Reads.Learnt
 listen = settled (λ k a r e p. p)
 
-pub follow_heard : SettledLent Follower.follow_heard.ended (λ M. Follower.follow_heard.clauses) (λ k r e. after e.0.now r)
-follow_heard w k a r s e f g h = facts w.𝓤 (λ p q. p ∙ sym q)
+pub follow_heard : SettledAs Follower.follow_heard.Reads.Learnt (λ k r e. after e.0.now r)
+follow_heard = settled_as (λ k a r e p. p)
 
-pub follow : SettledLent Follower.follow.ended (λ M. Follower.follow.clauses) (λ k r e. after e.0.now r)
-follow w k a r s e f g h = facts w.𝓤 (λ p q. p ∙ sym q)
+pub follow : SettledAs Follower.follow.Reads.Learnt (λ k r e. after e.0.now r)
+follow = settled_as (λ k a r e p. p)

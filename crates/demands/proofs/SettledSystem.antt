@@ -1,6 +1,14 @@
 -- Demand 1 for the calls that use the system: two results that satisfy a call's contract, and of which the system said the same, are equal, and so
 -- are two buffers at exit. Assumes nothing.
 use mathlib.Core.Path.{◌≡◌, sym, ap, ◌∙◌}
+use denote.RattleType.{RattleType}
+use denote.Param.Laws.{Laws}
+use mir.Syntax.{Dict}
+use Rattle.std.specs.declared.io.stdio.Input as Input
+use Rattle.std.specs.declared.io.traits.BufRead as BufRead
+use Rattle.std.specs.declared.io.traits.Read as Read
+use Rattle.std.specs.declared.io.Print as Print
+use Rattle.std.specs.declared.io.Eprint as Eprint
 use Rattle.standard_io.proofs as StandardIo
 use Rattle.standard_io.specs.System.{heard_after}
 use Rattle.standard_io.specs.declared.Said.{Said}
@@ -26,10 +34,6 @@ reached = settled (λ k a r e p. p)
 pub failed : Settled StandardIo.failed.Reads.Learnt
 failed = settled (λ k a r e p. p)
 
--- which bytes stand in the block behind those that were there is the system's
-pub read_more : SettledIf StandardIo.read_more.Reads.Learnt (λ k a r s e f p q. r.said ≡ s.said) (λ k r s e f. r ≡ s)
-read_more k a r s e f p q same = p.1.1 ∙ ap (λ (x : Said). heard_after a.1.1.0 x a.1.0) same ∙ sym q.1.1
-
 pub nothing_written : Settled StandardIo.nothing_written.Reads.Learnt
 nothing_written = settled (λ k a r e p. p)
 
@@ -43,57 +47,67 @@ took_all = settled (λ k a r e p. p)
 same_write : (v w : Wrote) → v.total ≡ w.total → v.all ≡ w.all → v ≡ w
 same_write v w t b i = record { all = b i; total = t i }
 
-pub write : SettledIf StandardIo.write.Reads.Learnt (λ k a r s e f p q. r.all ≡ s.all) (λ k r s e f. r ≡ s)
-write k a r s e f p q same = same_write r s (p ∙ sym q) same
-
 -- capture_input
 -- as many bytes were brought, and the system said the same
 same_heard : (h g : Heard) → h.total ≡ g.total → h.said ≡ g.said → h ≡ g
 same_heard h g t s i = record { said = s i; total = t i }
 
--- the same bytes arrived, and the system said the same of the last read: the same is found, put into the entry's buffer and left unread
-pub next_entry : SettledIf CaptureInput.next_entry.Reads.Learnt (λ k a r s e f p q. (p.0 ≡ q.0) × (r.heard.said ≡ s.heard.said))
-    (λ k r s e f.
-    Same r.next s.next (unread_in e.0.now r.unread) (unread_in f.0.now s.unread) e.1.0.now f.1.0.now
-    × (r.heard ≡ s.heard))
-next_entry k a r s e f p q given = (
-  took_once _ _ s.heard.said r.next s.next _ _ _ _ (rw given.0 at p.1) q.1 (rw given.1 at p.3) q.3,
-  same_heard r.heard s.heard (rw given.0 at p.4 ∙ sym q.4) given.1,
-)
-
 -- turns
 pub begin : Settled Turns.begin.Reads.Learnt
 begin = settled (λ k a r e p. p)
 
--- and nothing else of the state moves
-pub take_next : SettledIf Turns.take.Reads.Learnt (λ k a r s e f p q. (p.0.0 ≡ q.0.0) × (r.state.heard.said ≡ s.state.heard.said))
-    (λ k r s e f.
-    Same r.next s.next (unread_in e.0.now r.state.unread) (unread_in f.0.now s.state.unread) e.1.0.now f.1.0.now
-    × (r.state.heard ≡ s.state.heard)
-    × (r.state.at ≡ s.state.at)
-    × (r.state.wrote ≡ s.state.wrote)
-    × (r.state.going ≡ s.state.going))
-take_next k a r s e f p q given = (
-  took_once _ _ s.state.heard.said r.next s.next _ _ _ _ (rw given.0 at p.0.1) q.0.1 (rw given.1 at p.0.3) q.0.3,
-  same_heard r.state.heard s.state.heard (rw given.0 at p.0.4 ∙ sym q.0.4) given.1,
-  p.1 ∙ sym q.1,
-  p.2 ∙ sym q.2,
-  p.3 ∙ sym q.3,
-)
+-- The calls that read, for every runtime that they may be handed.
+module _ (T1 T2 : RattleType) (L1 : Laws T1) (L2 : Laws T2) (G1 : Input.Ghosts T1.Denot T2.Denot) (d1 : Dict) (G2 : BufRead.Ghosts T2.Denot) (d2 : Dict)
+    (G3 : Read.Ghosts T2.Denot) (d3 d4 : Dict) where
+  -- which bytes stand in the block behind those that were there is the system's
+  pub read_more : SettledIf (StandardIo.read_more.Reads.Learnt T1 T2 L1 L2 G1 d1 G2 d2 G3 d3 d4) (λ k a r s e f p q. r.said ≡ s.said) (λ k r s e f. r ≡ s)
+  read_more k a r s e f p q same = p.1.1 ∙ ap (λ (x : Said). heard_after a.1.1.1.0 x a.1.1.0) same ∙ sym q.1.1
 
-pub go_on : SettledIf Turns.go_on.Reads.Learnt (λ k a r s e f p q. r.wrote.all ≡ s.wrote.all) (λ k r s e f. r ≡ s)
-go_on k a r s e f p q same =
-    let wrote = same_write r.wrote s.wrote (p.handed ∙ sym q.handed) same in
-    λ i.
-    record {
-      unread = (p.unread ∙ sym q.unread) i;
-      at = (p.place ∙ sym q.place) i;
-      heard = (p.heard ∙ sym q.heard) i;
-      wrote = wrote i;
-      going = (p.goes ∙ same ∙ sym q.goes) i;
-    }
+  -- the same bytes arrived, and the system said the same of the last read: the same is found, put into the entry's buffer and left unread
+  pub next_entry : SettledIf (CaptureInput.next_entry.Reads.Learnt T1 T2 L1 L2 G1 d1 G2 d2 G3 d3 d4) (λ k a r s e f p q. (p.0 ≡ q.0) × (r.heard.said ≡ s.heard.said))
+      (λ k r s e f.
+      Same r.next s.next (unread_in e.1.0.now r.unread) (unread_in f.1.0.now s.unread) e.1.1.0.now f.1.1.0.now
+      × (r.heard ≡ s.heard))
+  next_entry k a r s e f p q given = (
+    took_once _ _ s.heard.said r.next s.next _ _ _ _ (rw given.0 at p.1) q.1 (rw given.1 at p.3) q.3,
+    same_heard r.heard s.heard (rw given.0 at p.4 ∙ sym q.4) given.1,
+  )
 
-pub finish : SettledIf Turns.finish.Reads.Learnt (λ k a r s e f p q. r.wrote.all ≡ s.wrote.all) (λ k r s e f. (r ≡ s) × (e.0.now ≡ f.0.now))
-finish k a r s e f p q same =
-    let wrote = same_write r.wrote s.wrote (p.handed ∙ sym q.handed) same in
-    (p.done ∙ ap (over _) wrote ∙ sym q.done, p.text ∙ sym q.text)
+  -- and nothing else of the state moves
+  pub take_next : SettledIf (Turns.take.Reads.Learnt T1 T2 L1 L2 G1 d1 G2 d2 G3 d3 d4) (λ k a r s e f p q. (p.0.0 ≡ q.0.0) × (r.state.heard.said ≡ s.state.heard.said))
+      (λ k r s e f.
+      Same r.next s.next (unread_in e.1.0.now r.state.unread) (unread_in f.1.0.now s.state.unread) e.1.1.0.now f.1.1.0.now
+      × (r.state.heard ≡ s.state.heard)
+      × (r.state.at ≡ s.state.at)
+      × (r.state.wrote ≡ s.state.wrote)
+      × (r.state.going ≡ s.state.going))
+  take_next k a r s e f p q given = (
+    took_once _ _ s.state.heard.said r.next s.next _ _ _ _ (rw given.0 at p.0.1) q.0.1 (rw given.1 at p.0.3) q.0.3,
+    same_heard r.state.heard s.state.heard (rw given.0 at p.0.4 ∙ sym q.0.4) given.1,
+    p.1 ∙ sym q.1,
+    p.2 ∙ sym q.2,
+    p.3 ∙ sym q.3,
+  )
+
+-- The calls that write, likewise.
+module _ (T : RattleType) (L : Laws T) (G1 : Print.Ghosts T.Denot) (d1 : Dict) (G2 : Eprint.Ghosts T.Denot) (d2 : Dict) where
+  pub write : SettledIf (StandardIo.write.Reads.Learnt T L G1 d1 G2 d2) (λ k a r s e f p q. r.all ≡ s.all) (λ k r s e f. r ≡ s)
+  write k a r s e f p q same = same_write r s (p ∙ sym q) same
+
+  pub go_on : SettledIf (Turns.go_on.Reads.Learnt T L G1 d1 G2 d2) (λ k a r s e f p q. r.wrote.all ≡ s.wrote.all) (λ k r s e f. r ≡ s)
+  go_on k a r s e f p q same =
+      let wrote = same_write r.wrote s.wrote (p.handed ∙ sym q.handed) same in
+      λ i.
+      record {
+        unread = (p.unread ∙ sym q.unread) i;
+        at = (p.place ∙ sym q.place) i;
+        heard = (p.heard ∙ sym q.heard) i;
+        wrote = wrote i;
+        going = (p.goes ∙ same ∙ sym q.goes) i;
+      }
+
+  pub finish : SettledIf (Turns.finish.Reads.Learnt T L G1 d1 G2 d2) (λ k a r s e f p q. r.wrote.all ≡ s.wrote.all) (λ k r s e f. (r ≡ s) × (e.1.0.now ≡ f.1.0.now))
+  finish k a r s e f p q same =
+      let wrote = same_write r.wrote s.wrote (p.handed ∙ sym q.handed) same in
+      (p.done ∙ ap (over _) wrote ∙ sym q.done, p.text ∙ sym q.text)
+

@@ -1,4 +1,3 @@
-pub mod Rows
 pub mod Scanned
 pub mod Firsts
 pub mod Sources
