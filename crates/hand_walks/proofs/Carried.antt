@@ -12,7 +12,7 @@
 use mathlib.Core.Path.{◌≡◌, sym, ap, subst}
 use mathlib.Core.List.{List, [], ◌∷◌}
 use seplogic.Ra.Ura.{Ura}
-use mir.Syntax.{Name, Place, Opd as Operand, Body, seq, call, w64}
+use mir.Syntax.{Callee, Place, Opd as Operand, Body, seq, call, w64}
 use mir.Val.{Val, vunit, vbool, vint}
 use base.Logic.{SProp, ent, sep, ex, emp, id⊢}
 use base.Fml.{Fml, ftrue, fsep}
@@ -159,7 +159,7 @@ module _ {M : Type 1} {𝓤 : Ura M} {𝓛 : Logic 𝓤} {K : Type 0} {Γ : List
   pub lands_as : K → (R : Carried) (r : R.row.Denot) (w : Val) → (Carry R r → Seq K 𝓛 Γ (lands C Λ E d (R.val r) rest q)) → Seq K 𝓛 (‵ (R.row.own_val r (w ∷ [])) ∷ Γ) (lands C Λ E d w rest q)
   lands_as t R r w k = known t R r w (λ same is. lands_by t same $ k is)
 
-  pub calls_by_value : K → FmC 𝓤 H 𝓛.laws C → {f : Name} {xs : List Operand} (c : Contract 𝓤) → Triple 𝓤 (C f) c → (x : c.Ghost) (R : Carried) (P : R.row.Denot → Type 0) → Answers 𝓛 (c.pre x) (c.post x) R P
+  pub calls_by_value : K → FmC 𝓤 H 𝓛.laws C → {f : Callee} {xs : List Operand} (c : Contract 𝓤) → Triple 𝓤 (C f) c → (x : c.Ghost) (R : Carried) (P : R.row.Denot → Type 0) → Answers 𝓛 (c.pre x) (c.post x) R P
       → Opds K 𝓛 (raw (c.pre x) ∷ Γ) E xs (c.args x) → ((r : R.row.Denot) → P r → Carry R r → Seq K 𝓛 Γ (lands C Λ E d (R.val r) rest q))
       → Seq K 𝓛 Γ (runs C Λ E (seq (call f xs d) rest) q)
   calls_by_value t fm c known x R P a os k =

@@ -11,11 +11,11 @@ use Prim.Native.Nat.{ℕ}
 use mathlib.Core.List.{List, [], ◌∷◌}
 use lib.ListN.{length}
 use seplogic.Ra.Ura.{Ura}
-use seplogic.Ra.TreeShare.{full_share}
-use mir.Syntax.{Lifetime, Name, Place, Opd as Operand, Body, seq, call, named}
+use base.Fraction.{full_share}
+use mir.Syntax.{Lifetime, Callee, Place, Opd as Operand, Body, seq, call, named}
 use mir.Val.{Val}
 use base.Logic.{SProp, ent, sep, ex, emp, guard_i}
-use base.Fml.{Lft, GName, Share, Fml, ftrue, fsep, feq, flft, fdead, fobs, fauth, flent, fobor}
+use base.Fml.{Lft, GName, Share, Fml, ftrue, fsep, feq, flft, fdead, fobs, fauth, flent, fbor, fobor}
 use prog.Wp.{Calls, Loops, Env}
 use types.Logic.{Logic, sem}
 use contract.Monad.{fact}
@@ -86,19 +86,20 @@ module _ (E : RattleType) (b o : ℕ) (ys : List E.Denot) where
       abbrev Asks : ℕ → GName → SProp 𝓤
       Asks ν δ = sep 𝓤 (sep 𝓤 (sep 𝓤 (A.lft (ν ∷ []) full_share) (emp 𝓤)) (sem 𝓛 (owns (MutSlice (named 0) (ν ∷ []) E ∷ rows Ts) (lent δ ys, a) (slice ∷ [], values Ts a)))) (emp 𝓤)
 
-      abbrev Ends : GName → List E.Denot × Nothings Ts → Fml
-      Ends δ z = fsep (fsep (finally E δ z.0) (feq ℕ (length z.0) (length ys))) (nothings Ts z.1)
+      -- beside the last list there is the borrow, closed: it is let go
+      abbrev Ends : ℕ → GName → List E.Denot × Nothings Ts → Fml
+      Ends ν δ z = fsep (fsep (fsep (finally E δ z.0) (feq ℕ (length z.0) (length ys))) (fbor (ν ∷ []) (Held E (length ys) b o δ))) (nothings Ts z.1)
 
       abbrev Leaves : ℕ → GName → Val → SProp 𝓤
       Leaves ν δ w = H.⇛ (ex 𝓤 (λ (r : R.row.Denot). sep 𝓤 (sep 𝓤 (sep 𝓤 (A.lft (ν ∷ []) full_share) (emp 𝓤)) (sem 𝓛 (R.row.own_val r (w ∷ []))))
-          (ex 𝓤 (λ (z : List E.Denot × Nothings Ts). sep 𝓤 (sem 𝓛 (Ends δ z)) (fact 𝓤 (P r z.0))))))
+          (ex 𝓤 (λ (z : List E.Denot × Nothings Ts). sep 𝓤 (sem 𝓛 (Ends ν δ z)) (fact 𝓤 (P r z.0))))))
 
       pub relends : Carries Ts a → Relends Asks Leaves R P
       relends is = record {
         asks = λ ν δ. qed 𝓛 (‵ (flft (ν ∷ []) full_share) ∷ ‵ ((MutSlice (named 0) (ν ∷ []) E).own_val (lent δ ys) (slice ∷ [])) ∷ []) ∵ nothing ! $ move ! (1 ∷ 0 ∷ []) $ join ! $ move ! (1 ∷ []) $
             use0 𝓛 (‵ (owns (rows Ts) a (values Ts a))) (all_owned 𝓛 Ts a is) $ move ! (1 ∷ 0 ∷ []) $ fjoin ! $ move ! (1 ∷ 0 ∷ []) $ join ! $ frame ! $ done !;
-        gives = λ ν δ w. qed 𝓛 (later (some (λ (r : R.row.Denot). ((‵ (flft (ν ∷ []) full_share) ⊛ ‵ ftrue) ⊛ ‵ (R.row.own_val r (w ∷ []))) ⊛ some (λ (z : List E.Denot × Nothings Ts). ‵ (Ends δ z) ⊛ raw (fact 𝓤 (P r z.0))))) ∷ []) ∵
-            updating ! $ await ! tt $ pick ! (λ r. split ! $ split ! $ split ! $ move ! (3 ∷ []) $ pick ! (λ z. split ! $ fsplit ! $ fsplit ! $ move ! (1 ∷ []) $ feq_l ! (λ l.
+        gives = λ ν δ w. qed 𝓛 (later (some (λ (r : R.row.Denot). ((‵ (flft (ν ∷ []) full_share) ⊛ ‵ ftrue) ⊛ ‵ (R.row.own_val r (w ∷ []))) ⊛ some (λ (z : List E.Denot × Nothings Ts). ‵ (Ends ν δ z) ⊛ raw (fact 𝓤 (P r z.0))))) ∷ []) ∵
+            updating ! $ await ! tt $ pick ! (λ r. split ! $ split ! $ split ! $ move ! (3 ∷ []) $ pick ! (λ z. split ! $ fsplit ! $ fsplit ! $ move ! (1 ∷ []) $ drop ! $ fsplit ! $ move ! (1 ∷ []) $ feq_l ! (λ l.
             move ! (2 ∷ []) $ heard ! (P r z.0) (λ p. use0 𝓛 (raw (fact 𝓤 ((length z.0 ≡ length ys) × P r z.0))) (guard_i 𝓤 ((length z.0 ≡ length ys) × P r z.0) (emp 𝓤) (l, p)) $
             -- [the facts; the last list; nothing; the token; true; the result]
             keep ! (3 ∷ 5 ∷ 1 ∷ 0 ∷ []) $ at_once ! $
@@ -109,7 +110,7 @@ module _ (E : RattleType) (b o : ℕ) (ys : List E.Denot) where
   module _ {M : Type 1} {𝓤 : Ura M} {𝓛 : Logic 𝓤} {K : Type 0} {Γ : List (Item 𝓤)} {En : Env 𝓤 𝓛.H} {C : Calls 𝓤 𝓛.H} {Λ : Loops 𝓤 𝓛.H} {t : Post 𝓤 𝓛.H} {d : Place} {rest : Body} where
     open 𝓛 use {H}
 
-    pub calls_relent : K → FmC 𝓤 H 𝓛.laws C → {f : Name} {xs : List Operand} {κ : Lft} {q : Share} {γ : GName} (c : Contract 𝓤) → Triple 𝓤 (C f) c → (x : ℕ → GName → c.Ghost) (R : Carried) (P : R.row.Denot → List E.Denot → Type 0)
+    pub calls_relent : K → FmC 𝓤 H 𝓛.laws C → {f : Callee} {xs : List Operand} {κ : Lft} {q : Share} {γ : GName} (c : Contract 𝓤) → Triple 𝓤 (C f) c → (x : ℕ → GName → c.Ghost) (R : Carried) (P : R.row.Denot → List E.Denot → Type 0)
         → Relends 𝓛 (λ ν δ. c.pre (x ν δ)) (λ ν δ. c.post (x ν δ)) R P → Room E (length ys)
         → ((ν : ℕ) (δ : GName) → Opds K 𝓛 (raw (c.pre (x ν δ)) ∷ ‵ (LentAgain E κ (ν ∷ []) q γ b o δ ys) ∷ Γ) En xs (c.args (x ν δ)))
         → ((r : R.row.Denot) (zs : List E.Denot) → P r zs → length zs ≡ length ys → Carry R r → Seq K 𝓛 (‵ ((MutSlice (named 0) κ E).own_val (lent γ zs) (slice ∷ [])) ∷ ‵ (flft κ q) ∷ Γ) (lands C Λ En d (R.val r) rest t))

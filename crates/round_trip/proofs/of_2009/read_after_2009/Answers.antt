@@ -1,0 +1,7 @@
+use Rattle.round_trip.proofs.of_2009.read_after_2009.Goals as goal
+
+pub returns-in-Refused : goal.returns-in-Refused
+returns-in-Refused c = rw c.in-Refused.is
+
+pub returns-in-Length : goal.returns-in-Length
+returns-in-Length c = rw c.in-Length.is c.parse.ensures
