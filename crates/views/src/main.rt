@@ -6,6 +6,7 @@ use discovery::DiscoveryFields;
 use extended::synchronization::SynchronizationFields;
 use framing::DataFields;
 use parts::plain::{Fields, Kind};
+use std::io;
 
 const LINE_ROOM: usize = 4096;
 
@@ -34,7 +35,7 @@ fn put_fields(out: &mut [u8], at: usize, fields: Fields) -> usize {
     }
 }
 
-fn show(words: &[u8], datagram: &[u8]) {
+fn show(rt: &impl Print, words: &[u8], datagram: &[u8]) -> io::Result<()> {
     let mut out = [0; LINE_ROOM];
     let reading = packet::parse(datagram);
     let plain = parts::plain::plain_of(reading);
@@ -51,10 +52,10 @@ fn show(words: &[u8], datagram: &[u8]) {
     let at = text::put(&mut out, at, b" values ");
     let at = text::put_hex(&mut out, at, view::viewed_values(datagram));
     let at = text::put(&mut out, at, b"\n");
-    io::write_all(libc::STDOUT_FILENO, wire::part(&out, 0, at));
+    rt.write_all(wire::part(&out, 0, at))
 }
 
-fn data_cases() {
+fn data_cases(rt: &impl Print) -> io::Result<()> {
     let mut buf = [0xee; 140];
     let fields = DataFields {
         priority: 100,
@@ -66,19 +67,20 @@ fn data_cases() {
         universe: 63999,
     };
     pack::pack_data(&mut buf, CID, fields, b"F\xc3\xb6H", b"\x00\x01\xff");
-    show(b"a name and three values", wire::part(&buf, 0, 128));
-    show(b"the same, and bytes behind the packet", &buf);
-    show(b"the same, one byte short", wire::part(&buf, 0, 127));
+    show(rt, b"a name and three values", wire::part(&buf, 0, 128))?;
+    show(rt, b"the same, and bytes behind the packet", &buf)?;
+    show(rt, b"the same, one byte short", wire::part(&buf, 0, 127))?;
     wire::copy(&mut buf, BEHIND_THE_NAME, b"\x55");
     show(
+        rt,
         b"the same, and a byte behind the name",
         wire::part(&buf, 0, 128),
-    );
+    )?;
     wire::copy(&mut buf, PRIORITY, &[201]);
-    show(b"the same, priority 201", wire::part(&buf, 0, 128));
+    show(rt, b"the same, priority 201", wire::part(&buf, 0, 128))
 }
 
-fn bare_case() {
+fn bare_case(rt: &impl Print) -> io::Result<()> {
     let mut buf = [0xee; 126];
     let fields = DataFields {
         priority: 0,
@@ -90,33 +92,33 @@ fn bare_case() {
         universe: 1,
     };
     pack::pack_data(&mut buf, CID, fields, b"", b"\x00");
-    show(b"no name and a start code alone", &buf);
+    show(rt, b"no name and a start code alone", &buf)
 }
 
-fn synchronization_case() {
+fn synchronization_case(rt: &impl Print) -> io::Result<()> {
     let mut buf = [0xee; 49];
     let fields = SynchronizationFields {
         sequence_number: 7,
         synchronization_address: 8000,
     };
     pack::pack_synchronization(&mut buf, CID, fields);
-    show(b"a sync packet", &buf);
+    show(rt, b"a sync packet", &buf)
 }
 
-fn discovery_case() {
+fn discovery_case(rt: &impl Print) -> io::Result<()> {
     let mut buf = [0xee; 124];
     let fields = DiscoveryFields {
         page: 1,
         last_page: 2,
     };
     pack::pack_discovery(&mut buf, CID, fields, b"FOH", &[5, 9]);
-    show(b"a name and two universes", &buf);
+    show(rt, b"a name and two universes", &buf)
 }
 
-fn main() {
-    data_cases();
-    bare_case();
-    synchronization_case();
-    discovery_case();
-    show(b"nothing", b"");
+fn main(rt: HostRuntime) -> io::Result<()> {
+    data_cases(&rt)?;
+    bare_case(&rt)?;
+    synchronization_case(&rt)?;
+    discovery_case(&rt)?;
+    show(&rt, b"nothing", b"")
 }
