@@ -1,7 +1,7 @@
 use mathlib.Core.Path.{◌≡◌, sym, ◌∙◌}
 use mathlib.Core.List.{[], append-nil}
 use native.Mathlib.Omega.{arith}
-use lib.ListN.{length, drop, length-set, drop_of_length-le}
+use lib.ListN.{drop, length-set, drop_of_length-le}
 use Rattle.text.proofs.Spelled.{places_left, tenth_fits, one_more, last_one}
 use Rattle.text.proofs.spell.Goals as goal
 

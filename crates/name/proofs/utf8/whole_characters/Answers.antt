@@ -1,4 +1,3 @@
-use Prim.Native.Nat.{◌-◌}
 use mathlib.Core.Path.{refl, sym, ◌∙◌}
 use native.Mathlib.Omega.{arith}
 use Rattle.name.specs.Utf8.{whole_chars}
@@ -11,10 +10,10 @@ loop-i-init c = (omega arith, refl)
 
 pub loop-i-preserved : goal.loop-i-preserved
 loop-i-preserved c = let s = c.args.s.now in (
-      omega arith,
-      rw (c.mark-whole.ensures, c.next-expect.ensures)
-          (reach_more s c.loop-i.i c.loop-i.expect c.loop-i.whole (omega arith) ∙ c.loop-i.invariant.1),
-    )
+  omega arith,
+  rw (c.mark-whole.ensures, c.next-expect.ensures)
+      (reach_more s c.loop-i.i c.loop-i.expect c.loop-i.whole (omega arith) ∙ c.loop-i.invariant.1),
+)
 
 pub returns : goal.returns
 returns c = sym (reach_end c.args.s.now c.loop-i.i c.loop-i.expect c.loop-i.whole (omega arith)) ∙ c.loop-i.invariant.1

@@ -1,6 +1,5 @@
 use Prim.Native.Nat.{◌+◌, ◌-◌, ◌/◌, ◌%◌, ◌<◌}
 use mathlib.Core.Path.{◌≡◌}
-use mathlib.Core.Logic.{⊎_elim}
 use native.Mathlib.Omega.{arith}
 use lib.ListN.{take, drop, get_or-eq_default}
 use Rattle.wire.specs.Bytes.{Bytes}
@@ -46,29 +45,29 @@ loop-word-preserved c = let bytes : Bytes c.args.s.now = λ i. (c.type_inv.s i).
 pub returns-then-end-at : goal.returns-then-end-at
 returns-then-end-at c = let bytes : Bytes c.args.s.now = λ i. (c.type_inv.s i).fits in
     let judged : Judged c.args.s.now c.if-skips.expect c.if-skips.whole c.loop-at.at c.if-skips.end =
-        elim c.if-skips.branch [
-          then-skips w ↦ let k = c.skips.ensures w.if-skips.true in
+    elim c.if-skips.branch [
+      | then-skips w ↦ let k = c.skips.ensures w.if-skips.true in
           rw (w.expect-is, w.whole-is, w.end-is)
           (judged_ascii c.args.s.now c.loop-at.expect c.loop-at.whole c.loop-at.at c.word_at-word.result w.zero_in-end.result
           bytes c.loop-at.invariant k.0 c.word_at-word.ensures k.1 w.zero_in-end.ensures)
-        | else-skips+else-loop-word-test w ↦ let l = w.loop-word in
+      | else-skips+else-loop-word-test w ↦ let l = w.loop-word in
           rw (w.expect-is, w.whole-is, w.end-is)
           (judged_stepped c.args.s.now l.expect l.whole c.loop-at.at l.end l.word bytes l.invariant.0 l.invariant.1 l.invariant.2 (omega arith))
-        ] in
+    ] in
     stands_over c.args.s.now c.if-skips.expect c.if-skips.whole c.if-skips.end judged.stands (judged.ends (omega arith))
 
 pub loop-at-preserved : goal.loop-at-preserved
 loop-at-preserved c = let bytes : Bytes c.args.s.now = λ i. (c.type_inv.s i).fits in
     let judged : Judged c.args.s.now c.if-skips.expect c.if-skips.whole c.loop-at.at c.if-skips.end =
-        elim c.if-skips.branch [
-          then-skips w ↦ let k = c.skips.ensures w.if-skips.true in
+    elim c.if-skips.branch [
+      | then-skips w ↦ let k = c.skips.ensures w.if-skips.true in
           rw (w.expect-is, w.whole-is, w.end-is)
           (judged_ascii c.args.s.now c.loop-at.expect c.loop-at.whole c.loop-at.at c.word_at-word.result w.zero_in-end.result
           bytes c.loop-at.invariant k.0 c.word_at-word.ensures k.1 w.zero_in-end.ensures)
-        | else-skips+else-loop-word-test w ↦ let l = w.loop-word in
+      | else-skips+else-loop-word-test w ↦ let l = w.loop-word in
           rw (w.expect-is, w.whole-is, w.end-is)
           (judged_stepped c.args.s.now l.expect l.whole c.loop-at.at l.end l.word bytes l.invariant.0 l.invariant.1 l.invariant.2 (omega arith))
-        ] in
+    ] in
     let e : c.if-skips.end ≡ c.loop-at.at + 8 = omega (arith, judged.few) in
     rw e at judged.stands
 
