@@ -8,7 +8,7 @@ use Rattle.refusal.specs.declared.Reason.TheVariants as why
 use Rattle.refusal.specs.declared.Start.{Start}
 use Rattle.refusal.specs.declared.Start.TheVariants as start_in
 use Rattle.refusal.specs.declared.Value.{Value}
-use Rattle.refusal.specs.declared.Value.TheVariants as value_of_lem
+use Rattle.refusal.specs.declared.Value.TheVariants as value_in
 use Rattle.refusal.specs.declared.VectorIn.{VectorIn}
 use Rattle.refusal.specs.declared.VectorIn.TheVariants as vector-in
 use Rattle.refusal.specs.declared.LengthIn.{LengthIn}
@@ -29,13 +29,13 @@ no_start start_in.Layer d place = room_at d place + 1 ≤? head_at place
 no_start start_in.Universes d place = 1 ≤? 0
 
 abbrev pub wrong_value : Value → List ℕ → Test
-wrong_value value_of_lem.PreambleSize d = u16_at d 0 ≠? 16
-wrong_value value_of_lem.PostambleSize d = u16_at d 2 ≠? 0
-wrong_value value_of_lem.Identifier d = u32_at d 4 ≠? 0x4153432d or u32_at d 8 ≠? 0x45312e31 or u32_at d 12 ≠? 0x37000000
-wrong_value value_of_lem.AddressType d = byte_at d 118 ≠? 161
-wrong_value value_of_lem.FirstAddress d = u16_at d 119 ≠? 0
-wrong_value value_of_lem.Increment d = u16_at d 121 ≠? 1
-wrong_value value_of_lem.Count d = 514 ≤? u16_at d 123
+wrong_value value_in.PreambleSize d = u16_at d 0 ≠? 16
+wrong_value value_in.PostambleSize d = u16_at d 2 ≠? 0
+wrong_value value_in.Identifier d = u32_at d 4 ≠? 0x4153432d or u32_at d 8 ≠? 0x45312e31 or u32_at d 12 ≠? 0x37000000
+wrong_value value_in.AddressType d = byte_at d 118 ≠? 161
+wrong_value value_in.FirstAddress d = u16_at d 119 ≠? 0
+wrong_value value_in.Increment d = u16_at d 121 ≠? 1
+wrong_value value_in.Count d = 514 ≤? u16_at d 123
 
 abbrev pub wrong_vector : VectorIn → ℕ → Test
 wrong_vector vector-in.Root v = v ≠? 4 and v ≠? 8

@@ -4,7 +4,7 @@ use Rattle.wire.specs.Fields.{byte_at, u16_at, be16, join}
 use Rattle.refusal.specs.Check.{Check, check, refusal, dmp, reaches, fits, ◌≤?◌, ◌=?◌, reading}
 use Rattle.refusal.specs.declared.Reason.TheVariants as why
 use Rattle.refusal.specs.declared.Field.TheVariants as field_of
-use Rattle.refusal.specs.declared.Value.TheVariants as value_of_lem
+use Rattle.refusal.specs.declared.Value.TheVariants as value_in
 use Rattle.refusal.specs.declared.VectorIn.TheVariants as vector-in
 use Rattle.pdu.specs.Head.{head_checks, length_of, vector_of, flags_and_length}
 use Rattle.pdu.specs.declared.VectorLength.TheVariants.{One}
@@ -20,11 +20,11 @@ start_checks p len vec =
     fits len dmp (length p)
     ∷ check (vec =? 2) (refusal 4 dmp vec) (why.Vector vector-in.Dmp) 2
     ∷ reaches 4 dmp p field_of.AddressType
-    ∷ check (byte_at p 3 =? 0xa1) (refusal 2 dmp 0) (why.NotAllowed value_of_lem.AddressType) 3
+    ∷ check (byte_at p 3 =? 0xa1) (refusal 2 dmp 0) (why.NotAllowed value_in.AddressType) 3
     ∷ reaches 6 dmp p field_of.FirstAddress
-    ∷ check (u16_at p 4 =? 0) (refusal 2 dmp 0) (why.NotAllowed value_of_lem.FirstAddress) 4
+    ∷ check (u16_at p 4 =? 0) (refusal 2 dmp 0) (why.NotAllowed value_in.FirstAddress) 4
     ∷ reaches 8 dmp p field_of.Increment
-    ∷ check (u16_at p 6 =? 1) (refusal 2 dmp 0) (why.NotAllowed value_of_lem.Increment) 6
+    ∷ check (u16_at p 6 =? 1) (refusal 2 dmp 0) (why.NotAllowed value_in.Increment) 6
     ∷ []
 
 -- 15 if count + 10 differs from length; 17 if count is 0, for the start code comes first; 2 if count is above 513
@@ -33,7 +33,7 @@ count_checks p len =
     reaches 10 dmp p field_of.Count
     ∷ check (count_of p + 10 =? len) (refusal 15 dmp (count_of p)) why.CountDiffers 8
     ∷ check (1 ≤? count_of p) (refusal 17 dmp 0) why.NoStartCode 8
-    ∷ check (count_of p ≤? 513) (refusal 2 dmp 0) (why.NotAllowed value_of_lem.Count) 8
+    ∷ check (count_of p ≤? 513) (refusal 2 dmp 0) (why.NotAllowed value_in.Count) 8
     ∷ []
 
 abbrev pub body_checks : List ℕ → ℕ → ℕ → List Check

@@ -12,7 +12,7 @@ use Rattle.refusal.specs.declared.Reason.TheVariants as why
 use Rattle.refusal.specs.declared.Start.{Start}
 use Rattle.refusal.specs.declared.Start.TheVariants as start_in
 use Rattle.refusal.specs.declared.Value.{Value}
-use Rattle.refusal.specs.declared.Value.TheVariants as value_of_lem
+use Rattle.refusal.specs.declared.Value.TheVariants as value_in
 use Rattle.refusal.specs.declared.VectorIn.{VectorIn}
 use Rattle.refusal.specs.declared.VectorIn.TheVariants as vector-in
 use Rattle.refusal.specs.declared.LengthIn.{LengthIn}
@@ -57,13 +57,13 @@ start_code start_in.Layer = 1
 start_code start_in.Universes = 2
 
 abbrev value_code : Value → ℕ
-value_code value_of_lem.PreambleSize = 0
-value_code value_of_lem.PostambleSize = 1
-value_code value_of_lem.Identifier = 2
-value_code value_of_lem.AddressType = 3
-value_code value_of_lem.FirstAddress = 4
-value_code value_of_lem.Increment = 5
-value_code value_of_lem.Count = 6
+value_code value_in.PreambleSize = 0
+value_code value_in.PostambleSize = 1
+value_code value_in.Identifier = 2
+value_code value_in.AddressType = 3
+value_code value_in.FirstAddress = 4
+value_code value_in.Increment = 5
+value_code value_in.Count = 6
 
 abbrev vector_code : VectorIn → ℕ
 vector_code vector-in.Root = 0

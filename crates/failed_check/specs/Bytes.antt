@@ -4,7 +4,7 @@ use Rattle.refusal.specs.Check.{Test, pick, ◌≤?◌, ◌=?◌}
 use Rattle.refusal.specs.declared.Reason.{Reason}
 use Rattle.refusal.specs.declared.Reason.TheVariants as why
 use Rattle.refusal.specs.declared.Value.{Value}
-use Rattle.refusal.specs.declared.Value.TheVariants as value_of_lem
+use Rattle.refusal.specs.declared.Value.TheVariants as value_in
 use Rattle.refusal.specs.declared.AddressIn.{AddressIn}
 use Rattle.refusal.specs.declared.AddressIn.TheVariants as address-in
 
@@ -15,13 +15,13 @@ first_byte place =
 
 -- the offsets of the fields that have to have a certain value, and of the two synchronization addresses
 abbrev pub value_at : Value → ℕ
-value_at value_of_lem.PreambleSize = 0
-value_at value_of_lem.PostambleSize = 2
-value_at value_of_lem.Identifier = 4
-value_at value_of_lem.AddressType = 118
-value_at value_of_lem.FirstAddress = 119
-value_at value_of_lem.Increment = 121
-value_at value_of_lem.Count = 123
+value_at value_in.PreambleSize = 0
+value_at value_in.PostambleSize = 2
+value_at value_in.Identifier = 4
+value_at value_in.AddressType = 118
+value_at value_in.FirstAddress = 119
+value_at value_in.Increment = 121
+value_at value_in.Count = 123
 
 abbrev pub address_at : AddressIn → ℕ
 address_at address-in.Data = 109

@@ -8,7 +8,7 @@ use Rattle.refusal.specs.Check.{pick}
 use Rattle.refusal.specs.declared.Reason.{Reason}
 use Rattle.refusal.specs.declared.Reason.TheVariants as why
 use Rattle.refusal.specs.declared.Start.TheVariants as start_in
-use Rattle.refusal.specs.declared.Value.TheVariants as value_of_lem
+use Rattle.refusal.specs.declared.Value.TheVariants as value_in
 use Rattle.refusal.specs.declared.VectorIn.TheVariants as vector-in
 use Rattle.refusal.specs.declared.LengthIn.TheVariants as length-in
 use Rattle.refusal.specs.declared.AddressIn.TheVariants as address-in
@@ -37,13 +37,13 @@ every_reason =
     (why.TooShort start_in.Preamble)
     ∷ (why.TooShort start_in.Layer)
     ∷ (why.TooShort start_in.Universes)
-    ∷ (why.NotAllowed value_of_lem.PreambleSize)
-    ∷ (why.NotAllowed value_of_lem.PostambleSize)
-    ∷ (why.NotAllowed value_of_lem.Identifier)
-    ∷ (why.NotAllowed value_of_lem.AddressType)
-    ∷ (why.NotAllowed value_of_lem.FirstAddress)
-    ∷ (why.NotAllowed value_of_lem.Increment)
-    ∷ (why.NotAllowed value_of_lem.Count)
+    ∷ (why.NotAllowed value_in.PreambleSize)
+    ∷ (why.NotAllowed value_in.PostambleSize)
+    ∷ (why.NotAllowed value_in.Identifier)
+    ∷ (why.NotAllowed value_in.AddressType)
+    ∷ (why.NotAllowed value_in.FirstAddress)
+    ∷ (why.NotAllowed value_in.Increment)
+    ∷ (why.NotAllowed value_in.Count)
     ∷ why.Flags
     ∷ (why.Vector vector-in.Root)
     ∷ (why.Vector vector-in.Root2009)
@@ -87,13 +87,13 @@ unfolding reason_of every_reason wrong_words wanted_words start_words value_word
 found_again (why.TooShort start_in.Preamble) = refl
 found_again (why.TooShort start_in.Layer) = refl
 found_again (why.TooShort start_in.Universes) = refl
-found_again (why.NotAllowed value_of_lem.PreambleSize) = refl
-found_again (why.NotAllowed value_of_lem.PostambleSize) = refl
-found_again (why.NotAllowed value_of_lem.Identifier) = refl
-found_again (why.NotAllowed value_of_lem.AddressType) = refl
-found_again (why.NotAllowed value_of_lem.FirstAddress) = refl
-found_again (why.NotAllowed value_of_lem.Increment) = refl
-found_again (why.NotAllowed value_of_lem.Count) = refl
+found_again (why.NotAllowed value_in.PreambleSize) = refl
+found_again (why.NotAllowed value_in.PostambleSize) = refl
+found_again (why.NotAllowed value_in.Identifier) = refl
+found_again (why.NotAllowed value_in.AddressType) = refl
+found_again (why.NotAllowed value_in.FirstAddress) = refl
+found_again (why.NotAllowed value_in.Increment) = refl
+found_again (why.NotAllowed value_in.Count) = refl
 found_again why.Flags = refl
 found_again (why.Vector vector-in.Root) = refl
 found_again (why.Vector vector-in.Root2009) = refl

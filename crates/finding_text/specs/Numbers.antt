@@ -7,7 +7,7 @@ use Rattle.refusal.specs.declared.Reason.TheVariants as why
 use Rattle.refusal.specs.declared.Start.{Start}
 use Rattle.refusal.specs.declared.Start.TheVariants as start_in
 use Rattle.refusal.specs.declared.Value.{Value}
-use Rattle.refusal.specs.declared.Value.TheVariants as value_of_lem
+use Rattle.refusal.specs.declared.Value.TheVariants as value_in
 use Rattle.refusal.specs.declared.Field.{Field}
 use Rattle.refusal.specs.declared.Field.TheVariants as field_of
 use Rattle.refusal.specs.declared.Room.{Room}
@@ -53,13 +53,13 @@ found_start start_in.Layer = source.Room
 found_start start_in.Universes = source.Nowhere
 
 abbrev pub found_value : Value → Source
-found_value value_of_lem.PreambleSize = source.Word
-found_value value_of_lem.PostambleSize = source.Word
-found_value value_of_lem.Identifier = source.Nowhere
-found_value value_of_lem.AddressType = source.Byte
-found_value value_of_lem.FirstAddress = source.Word
-found_value value_of_lem.Increment = source.Word
-found_value value_of_lem.Count = source.Word
+found_value value_in.PreambleSize = source.Word
+found_value value_in.PostambleSize = source.Word
+found_value value_in.Identifier = source.Nowhere
+found_value value_in.AddressType = source.Byte
+found_value value_in.FirstAddress = source.Word
+found_value value_in.Increment = source.Word
+found_value value_in.Count = source.Word
 
 abbrev pub found_field : Field → Source
 found_field field_of.Cid = source.Length

@@ -1,5 +1,4 @@
 pub mod Fits
 pub mod Standing
-pub mod Calls
 pub mod Follow
 pub mod Examples

@@ -119,19 +119,25 @@ fn hear(entry: &[u8], next: Next) -> Heard
 }
 
 // Takes the next entry, if there is one, and listens to it.
-fn catch(block: &mut [u8], entry: &mut [u8], progress: Progress) -> Caught
+fn catch(rt: &impl Input, block: &mut [u8], entry: &mut [u8], progress: Progress) -> Caught
     ensures taken_from { TakenFrom block.old block.new entry.old entry.new progress.state result.found }
     ensures heard_value { result.heard ≡ heard_next entry.new result.found.next }
 {
     let state = progress.state;
-    let found = turns::take(block, entry, state);
+    let found = turns::take(rt, block, entry, state);
     let next = found.next;
     let heard = hear(entry, next);
     Caught { found, heard }
 }
 
 // The text of what was found after n entries, and the state behind it.
-fn put_next(out: &mut [u8], n: u64, found: Found, followed: Followed) -> State
+fn put_next(
+    rt: &(impl Print + Eprint),
+    out: &mut [u8],
+    n: u64,
+    found: Found,
+    followed: Followed,
+) -> State
     requires { n < 0xffff_ffff_ffff_ffff }
     ensures { Told out.old out.new n found.state followed result found.next }
 {
@@ -142,18 +148,24 @@ fn put_next(out: &mut [u8], n: u64, found: Found, followed: Followed) -> State
     match next {
         Next::Entry { len: _ } => {
             let end = put_became(out, state.at, n + 1, answer);
-            turns::go_on(out, end, state)
+            turns::go_on(rt, out, end, state)
         }
         Next::Stop(_) => {
             let end = put_totals(out, state.at, totals);
-            turns::finish(out, end, next, n, state)
+            turns::finish(rt, out, end, next, n, state)
         }
-        Next::Failed => turns::finish(out, state.at, next, n, state),
+        Next::Failed => turns::finish(rt, out, state.at, next, n, state),
     }
 }
 
 // Tells what became of what was caught.
-fn tell(out: &mut [u8], progress: Progress, caught: Caught, followed: Followed) -> Progress
+fn tell(
+    rt: &(impl Print + Eprint),
+    out: &mut [u8],
+    progress: Progress,
+    caught: Caught,
+    followed: Followed,
+) -> Progress
     requires { progress.n < 0xffff_ffff_ffff_ffff }
     ensures told { Told out.old out.new progress.n caught.found.state followed result.state caught.found.next }
     ensures n_value { (result.n ≡ progress.n + 1) × (result.totals ≡ followed.totals) }
@@ -161,7 +173,7 @@ fn tell(out: &mut [u8], progress: Progress, caught: Caught, followed: Followed) 
     let n = progress.n;
     let found = caught.found;
     let next_totals = followed.totals;
-    let state = put_next(out, n, found, followed);
+    let state = put_next(rt, out, n, found, followed);
     Progress {
         state,
         n: n + 1,
@@ -171,24 +183,30 @@ fn tell(out: &mut [u8], progress: Progress, caught: Caught, followed: Followed) 
 
 // The whole program: entries are followed in a table that is cleared, until one is the last. The buffers hold the
 // longest entry, one with its length, and a line.
-fn run(table: [Entry; SOURCES], block: &mut [u8], entry: &mut [u8], out: &mut [u8]) -> State
+fn run(
+    rt: &(impl Input + Print + Eprint),
+    table: [Entry; SOURCES],
+    block: &mut [u8],
+    entry: &mut [u8],
+    out: &mut [u8],
+) -> State
     requires { (table ≡ cleared 1024) × (length entry.old ≡ 8192) × (8194 ≤ length block.old) × (40000 ≤ length out.old) }
     ensures { Ran (following (cleared 1024)) block.old out.old block.new out.new result }
 {
     let mut table = table;
     let mut progress = begin();
     while goes_on(progress) {
-        let caught = catch(block, entry, progress);
+        let caught = catch(rt, block, entry, progress);
         let followed = follower::follow_heard(&mut table, progress.totals, caught.heard);
-        progress = tell(out, progress, caught, followed);
+        progress = tell(rt, out, progress, caught, followed);
     }
     progress.state
 }
 
-fn main() {
+fn main(rt: HostRuntime) {
     let table = [Entry::free(); SOURCES];
     let mut block = [0; BLOCK];
     let mut entry = [0; LONGEST_ENTRY];
     let mut out = [0; BLOCK];
-    run(table, &mut block, &mut entry, &mut out);
+    run(&rt, table, &mut block, &mut entry, &mut out);
 }

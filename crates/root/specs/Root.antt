@@ -5,7 +5,7 @@ use Rattle.refusal.specs.Check.{Check, check, refusal, preamble, root, fits, ◌
 use Rattle.refusal.specs.declared.Reason.TheVariants as why
 use Rattle.refusal.specs.declared.Field.TheVariants as field_of
 use Rattle.refusal.specs.declared.Start.TheVariants as start_in
-use Rattle.refusal.specs.declared.Value.TheVariants as value_of_lem
+use Rattle.refusal.specs.declared.Value.TheVariants as value_in
 use Rattle.refusal.specs.declared.VectorIn.TheVariants as vector-in
 use Rattle.pdu.specs.Head.{head_checks, length_of, vector_of}
 use Rattle.pdu.specs.declared.VectorLength.TheVariants.{Four}
@@ -18,9 +18,9 @@ use Rattle.root.specs.declared.Root.TheVariants.{Layer, Refused}
 abbrev pub preamble_checks : List ℕ → List Check
 preamble_checks d =
     check (16 ≤? length d) (refusal 1 preamble 0) (why.TooShort start_in.Preamble) 0
-    ∷ check (u16_at d 0 =? 0x0010) (refusal 2 preamble 0) (why.NotAllowed value_of_lem.PreambleSize) 0
-    ∷ check (u16_at d 2 =? 0) (refusal 2 preamble 0) (why.NotAllowed value_of_lem.PostambleSize) 2
-    ∷ check (u32_at d 4 =? 0x4153432d and u32_at d 8 =? 0x45312e31 and u32_at d 12 =? 0x37000000) (refusal 2 preamble 0) (why.NotAllowed value_of_lem.Identifier) 4
+    ∷ check (u16_at d 0 =? 0x0010) (refusal 2 preamble 0) (why.NotAllowed value_in.PreambleSize) 0
+    ∷ check (u16_at d 2 =? 0) (refusal 2 preamble 0) (why.NotAllowed value_in.PostambleSize) 2
+    ∷ check (u32_at d 4 =? 0x4153432d and u32_at d 8 =? 0x45312e31 and u32_at d 12 =? 0x37000000) (refusal 2 preamble 0) (why.NotAllowed value_in.Identifier) 4
     ∷ []
 
 -- the root layer's part is all from byte 16

@@ -7,7 +7,7 @@ use Rattle.refusal.specs.declared.Reason.TheVariants as why
 use Rattle.refusal.specs.declared.Start.{Start}
 use Rattle.refusal.specs.declared.Start.TheVariants as start_in
 use Rattle.refusal.specs.declared.Value.{Value}
-use Rattle.refusal.specs.declared.Value.TheVariants as value_of_lem
+use Rattle.refusal.specs.declared.Value.TheVariants as value_in
 use Rattle.refusal.specs.declared.VectorIn.{VectorIn}
 use Rattle.refusal.specs.declared.VectorIn.TheVariants as vector-in
 use Rattle.refusal.specs.declared.LengthIn.{LengthIn}
@@ -28,13 +28,13 @@ starts_fit start_in.Universes = omega arith
 
 values_fit : (x : Value) → length (value_words x) ≤ 50
 unfolding value_words
-values_fit value_of_lem.PreambleSize = omega arith
-values_fit value_of_lem.PostambleSize = omega arith
-values_fit value_of_lem.Identifier = omega arith
-values_fit value_of_lem.AddressType = omega arith
-values_fit value_of_lem.FirstAddress = omega arith
-values_fit value_of_lem.Increment = omega arith
-values_fit value_of_lem.Count = omega arith
+values_fit value_in.PreambleSize = omega arith
+values_fit value_in.PostambleSize = omega arith
+values_fit value_in.Identifier = omega arith
+values_fit value_in.AddressType = omega arith
+values_fit value_in.FirstAddress = omega arith
+values_fit value_in.Increment = omega arith
+values_fit value_in.Count = omega arith
 
 vectors_fit : (x : VectorIn) → length (vector_words x) ≤ 50
 unfolding vector_words

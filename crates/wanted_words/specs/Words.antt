@@ -5,7 +5,7 @@ use Rattle.refusal.specs.declared.Reason.TheVariants as why
 use Rattle.refusal.specs.declared.Start.{Start}
 use Rattle.refusal.specs.declared.Start.TheVariants as start_in
 use Rattle.refusal.specs.declared.Value.{Value}
-use Rattle.refusal.specs.declared.Value.TheVariants as value_of_lem
+use Rattle.refusal.specs.declared.Value.TheVariants as value_in
 use Rattle.refusal.specs.declared.VectorIn.{VectorIn}
 use Rattle.refusal.specs.declared.VectorIn.TheVariants as vector-in
 use Rattle.refusal.specs.declared.LengthIn.{LengthIn}
@@ -25,13 +25,13 @@ start_words start_in.Layer = ascii "for flags, length and vector "
 start_words start_in.Universes = ascii "the universes"
 
 unfoldable pub value_words : Value → List ℕ
-value_words value_of_lem.PreambleSize = ascii "preamble size 16"
-value_words value_of_lem.PostambleSize = ascii "postamble size 0"
-value_words value_of_lem.Identifier = ascii "ASC-E1.17 and three zeros"
-value_words value_of_lem.AddressType = ascii "address type 161, which is 0xa1"
-value_words value_of_lem.FirstAddress = ascii "first address 0"
-value_words value_of_lem.Increment = ascii "address increment 1"
-value_words value_of_lem.Count = ascii "a count of at most 513"
+value_words value_in.PreambleSize = ascii "preamble size 16"
+value_words value_in.PostambleSize = ascii "postamble size 0"
+value_words value_in.Identifier = ascii "ASC-E1.17 and three zeros"
+value_words value_in.AddressType = ascii "address type 161, which is 0xa1"
+value_words value_in.FirstAddress = ascii "first address 0"
+value_words value_in.Increment = ascii "address increment 1"
+value_words value_in.Count = ascii "a count of at most 513"
 
 unfoldable pub vector_words : VectorIn → List ℕ
 vector_words vector-in.Root = ascii "4 for data or 8 for the other packets"
