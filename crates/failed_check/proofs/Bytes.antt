@@ -5,7 +5,7 @@ use mathlib.Core.Bool.{true}
 use mathlib.Core.List.{List, [], ◌∷◌, ◌++◌}
 use native.Mathlib.Omega.{arith}
 use lib.ListN.{length, drop, length-take, length-drop}
-use Rattle.refusal.specs.Check.{Test, Check, root, discovery, ◌≤?◌, ◌=?◌, ◌and◌, choose}
+use Rattle.refusal.specs.Check.{Test, Check, discovery, ◌≤?◌, ◌=?◌, ◌and◌, choose}
 use Rattle.refusal.proofs.Tests.{Holds, Fails, choice}
 use Rattle.refusal.proofs.Laws.{All, Each, each, each_++, each_map, each_computed}
 use Rattle.name.specs.Name.{name_field, source_name_checks}

@@ -1,5 +1,5 @@
 -- A layer's refusal is its own, or that of the layer in it. Assumes nothing.
-use Prim.Native.Nat.{ℕ, ◌≤◌, ◌/◌, ◌-◌}
+use Prim.Native.Nat.{ℕ, ◌≤◌, ◌/◌}
 use mathlib.Core.Path.{◌≡◌, refl, sym, ap, ◌∙◌}
 use mathlib.Core.List.{List, ◌++◌}
 use native.Mathlib.Omega.{arith}

@@ -5,6 +5,8 @@
 
 use pack::Packed;
 use page_collector::{Answer, Collected, Collector};
+use std::io;
+use std::io::Read;
 
 const UNIVERSES: usize = 0x1_0000;
 
@@ -238,14 +240,27 @@ fn run(letter: u8, rounds: usize, packets: &mut [u8], universes: &[u16]) -> u64 
     join_rounds(rounds, full, packets, &mut memory, &mut list)
 }
 
-fn main() {
+// Fills the buffer from standard input, as far as the input goes. Each read but the last brings a byte or more.
+fn read_full(rt: &impl Input, buf: &mut [u8]) -> io::Result<()> {
+    let mut reader = rt.reader();
+    let mut done = 0;
+    for _ in 0..buf.len() {
+        let count = reader.read(&mut buf[done..])?;
+        if count == 0 {
+            break;
+        }
+        done += count;
+    }
+    Ok(())
+}
+
+fn main(rt: HostRuntime) -> io::Result<()> {
     let mut input = [b'0'; INPUT];
-    io::read_full(libc::STDIN_FILENO, &mut input);
+    read_full(&rt, &mut input)?;
     let mut universes = [0; UNIVERSES];
     fill(&mut universes);
     let mut packets = [0; ALL_ROOM];
     let rounds = number(wire::part(&input, 1, DIGITS));
     let sum = run(input[0], rounds, &mut packets, &universes);
-    io::print_decimal(libc::STDOUT_FILENO, sum);
-    io::write_all(libc::STDOUT_FILENO, b"\n");
+    println!(rt; "{sum}")
 }

@@ -1,5 +1,5 @@
 -- What a datagram is read as: all its checks in document 01's order, chosen by its two vectors, and the record where none fails.
-use Rattle.std.specs.Prelude.{ℕ, ◌+◌, ◌-◌, ◌*◌, List, ◌++◌, length, take, drop, replicate}
+use Rattle.std.specs.Prelude.{ℕ, ◌-◌, ◌*◌, List, ◌++◌, length, take, drop, replicate}
 use Rattle.refusal.specs.Check.{Check, ◌≤?◌, ◌=?◌, choose, reading}
 use Rattle.pdu.specs.Head.{length_of, vector_of}
 use Rattle.pdu.specs.declared.VectorLength.TheVariants.{Four}

@@ -2,6 +2,7 @@
 use crate::{CID, LINE_ROOM, PACKET_ROOM};
 use discovery::DiscoveryFields;
 use page_collector::{Answer, Collected, Collector};
+use std::io;
 
 // What is shown of a list.
 const SHOWN: usize = 8;
@@ -40,57 +41,65 @@ fn fed(
     page_collector::collect(collector, &packet, memory, list)
 }
 
-fn tell(fields: DiscoveryFields, answer: Answer, list: &[u16]) {
+fn tell(rt: &impl Print, fields: DiscoveryFields, answer: Answer, list: &[u16]) -> io::Result<()> {
     let mut out = [0; LINE_ROOM];
     let at = text::put_field(&mut out, 0, b"page ", fields.page as u64);
     let at = text::put_field(&mut out, at, b" of 0 to ", fields.last_page as u64);
     let at = text::put(&mut out, at, b":");
     let at = crate::put_answer(&mut out, at, answer);
     let at = put_front(&mut out, at, answer, list);
-    crate::end_line(&mut out, at);
+    crate::end_line(rt, &mut out, at)
 }
 
 // Feeds a page and tells what became of it.
 fn told(
+    rt: &impl Print,
     collector: Collector,
     page: u8,
     last_page: u8,
     universes: &[u16],
     memory: &mut [u16],
     list: &mut [u16],
-) -> Collector {
+) -> io::Result<Collector> {
     let fields = DiscoveryFields { page, last_page };
     let done = fed(collector, fields, universes, memory, list);
     let answer = done.answer;
-    tell(fields, answer, list);
-    done.collector
+    tell(rt, fields, answer, list)?;
+    Ok(done.collector)
 }
 
 // Short and empty pages.
-fn short_pages(memory: &mut [u16], list: &mut [u16]) -> Collector {
+fn short_pages(rt: &impl Print, memory: &mut [u16], list: &mut [u16]) -> io::Result<Collector> {
     let collector = Collector::new(CID);
-    let collector = told(collector, 2, 2, &[5, 9], memory, list);
-    let collector = told(collector, 0, 2, &[1, 2], memory, list);
-    told(collector, 1, 2, &[], memory, list)
+    let collector = told(rt, collector, 2, 2, &[5, 9], memory, list)?;
+    let collector = told(rt, collector, 0, 2, &[1, 2], memory, list)?;
+    told(rt, collector, 1, 2, &[], memory, list)
 }
 
 // A page is replaced; then the last page's number changes, and changes back: each time all start afresh.
-fn other_pages(collector: Collector, memory: &mut [u16], list: &mut [u16]) {
-    let collector = told(collector, 1, 2, &[3], memory, list);
-    let collector = told(collector, 0, 0, &[0, 65535], memory, list);
-    told(collector, 1, 2, &[3], memory, list);
+fn other_pages(
+    rt: &impl Print,
+    collector: Collector,
+    memory: &mut [u16],
+    list: &mut [u16],
+) -> io::Result<()> {
+    let collector = told(rt, collector, 1, 2, &[3], memory, list)?;
+    let collector = told(rt, collector, 0, 0, &[0, 65535], memory, list)?;
+    told(rt, collector, 1, 2, &[3], memory, list)?;
+    Ok(())
 }
 
 // Pages that overlap are kept, and there is no list until they do not.
-fn overlapping_pages(memory: &mut [u16], list: &mut [u16]) {
+fn overlapping_pages(rt: &impl Print, memory: &mut [u16], list: &mut [u16]) -> io::Result<()> {
     let collector = Collector::new(CID);
-    let collector = told(collector, 0, 1, &[1, 5], memory, list);
-    let collector = told(collector, 1, 1, &[5, 9], memory, list);
-    told(collector, 1, 1, &[6, 9], memory, list);
+    let collector = told(rt, collector, 0, 1, &[1, 5], memory, list)?;
+    let collector = told(rt, collector, 1, 1, &[5, 9], memory, list)?;
+    told(rt, collector, 1, 1, &[6, 9], memory, list)?;
+    Ok(())
 }
 
 // 256 pages with a universe on each, the last one first.
-fn most_pages(memory: &mut [u16], list: &mut [u16]) {
+fn most_pages(rt: &impl Print, memory: &mut [u16], list: &mut [u16]) -> io::Result<()> {
     let mut collector = Collector::new(CID);
     let mut page = 255;
     while 0 < page {
@@ -102,12 +111,13 @@ fn most_pages(memory: &mut [u16], list: &mut [u16]) {
         collector = done.collector;
         page -= 1;
     }
-    told(collector, 0, 255, &[7], memory, list);
+    told(rt, collector, 0, 255, &[7], memory, list)?;
+    Ok(())
 }
 
-pub(crate) fn pages(memory: &mut [u16], list: &mut [u16]) {
-    let collector = short_pages(memory, list);
-    other_pages(collector, memory, list);
-    overlapping_pages(memory, list);
-    most_pages(memory, list);
+pub(crate) fn pages(rt: &impl Print, memory: &mut [u16], list: &mut [u16]) -> io::Result<()> {
+    let collector = short_pages(rt, memory, list)?;
+    other_pages(rt, collector, memory, list)?;
+    overlapping_pages(rt, memory, list)?;
+    most_pages(rt, memory, list)
 }

@@ -7,6 +7,7 @@ mod refused;
 mod shuffled;
 
 use page_collector::{Answer, Collected, Collector};
+use std::io;
 
 const CID: [u8; 16] = [7; 16];
 
@@ -70,15 +71,15 @@ pub(crate) fn put_answer(out: &mut [u8], at: usize, answer: Answer) -> usize {
     }
 }
 
-pub(crate) fn end_line(out: &mut [u8], at: usize) {
+pub(crate) fn end_line(rt: &impl Print, out: &mut [u8], at: usize) -> io::Result<()> {
     let end = text::put(out, at, b"\n");
-    io::write_all(libc::STDOUT_FILENO, wire::part(out, 0, end));
+    rt.write_all(wire::part(out, 0, end))
 }
 
-fn main() {
+fn main(rt: HostRuntime) -> io::Result<()> {
     let mut memory = [0; ROOM];
     let mut list = [0; ROOM];
-    shuffled::lists(&mut memory, &mut list);
-    foreign::pages(&mut memory, &mut list);
-    refused::cases(&mut memory, &mut list);
+    shuffled::lists(&rt, &mut memory, &mut list)?;
+    foreign::pages(&rt, &mut memory, &mut list)?;
+    refused::cases(&rt, &mut memory, &mut list)
 }

@@ -3,6 +3,7 @@ use crate::{CID, LINE_ROOM, OTHER_CID, PACKET_ROOM};
 use extended::synchronization::SynchronizationFields;
 use pack::Packed;
 use page_collector::{Answer, Collector};
+use std::io;
 
 // Two pages, and one universe on a third.
 const MANY: usize = 1025;
@@ -15,79 +16,93 @@ fn put_packed(out: &mut [u8], at: usize, packed: Packed) -> usize {
 }
 
 // Asks for a page, into a buffer of so many bytes.
-fn write(words: &[u8], room: usize, page: u8, name: &[u8], universes: &[u16]) {
+fn write(
+    rt: &impl Print,
+    words: &[u8],
+    room: usize,
+    page: u8,
+    name: &[u8],
+    universes: &[u16],
+) -> io::Result<()> {
     let mut packet = [0; PACKET_ROOM];
     let room = wire::least(room, PACKET_ROOM);
     let packed = universe_pages::pack_page(&mut packet[0..room], CID, page, name, universes);
     let mut out = [0; LINE_ROOM];
     let at = text::put(&mut out, 0, words);
     let at = put_packed(&mut out, at, packed);
-    crate::end_line(&mut out, at);
+    crate::end_line(rt, &mut out, at)
 }
 
 // How many pages a list has.
-fn numbers_of_pages(many: &[u16]) {
-    write(b"page 0 of none:", PACKET_ROOM, 0, b"", &[]);
-    write(b"page 1 of none:", PACKET_ROOM, 1, b"", &[]);
+fn numbers_of_pages(rt: &impl Print, many: &[u16]) -> io::Result<()> {
+    write(rt, b"page 0 of none:", PACKET_ROOM, 0, b"", &[])?;
+    write(rt, b"page 1 of none:", PACKET_ROOM, 1, b"", &[])?;
     let full = crate::first(many, 512);
-    write(b"page 0 of 512:", PACKET_ROOM, 0, b"", full);
-    write(b"page 1 of 512:", PACKET_ROOM, 1, b"", full);
+    write(rt, b"page 0 of 512:", PACKET_ROOM, 0, b"", full)?;
+    write(rt, b"page 1 of 512:", PACKET_ROOM, 1, b"", full)?;
     let both_full = crate::first(many, 1024);
-    write(b"page 1 of 1024:", PACKET_ROOM, 1, b"", both_full);
-    write(b"page 2 of 1024:", PACKET_ROOM, 2, b"", both_full);
-    write(b"page 2 of 1025:", PACKET_ROOM, 2, b"", many);
-    write(b"page 255 of 1025:", PACKET_ROOM, 255, b"", many);
+    write(rt, b"page 1 of 1024:", PACKET_ROOM, 1, b"", both_full)?;
+    write(rt, b"page 2 of 1024:", PACKET_ROOM, 2, b"", both_full)?;
+    write(rt, b"page 2 of 1025:", PACKET_ROOM, 2, b"", many)?;
+    write(rt, b"page 255 of 1025:", PACKET_ROOM, 255, b"", many)
 }
 
 // 47, and then 20 to 23.
-fn faults_of_a_packet(many: &[u16]) {
-    write(b"no room and page 3:", 0, 3, b"\0", many);
-    write(b"a byte too little room:", 121, 2, b"\0", many);
-    write(b"a name of 64 bytes:", 122, 2, &[b'n'; 64], many);
-    write(b"a name with a zero:", 122, 2, b"a\0\xff", many);
-    write(b"a name that breaks off:", 122, 2, b"ab\xc3", many);
-    write(b"just room:", 122, 2, b"ab\xc3\xa9", many);
+fn faults_of_a_packet(rt: &impl Print, many: &[u16]) -> io::Result<()> {
+    write(rt, b"no room and page 3:", 0, 3, b"\0", many)?;
+    write(rt, b"a byte too little room:", 121, 2, b"\0", many)?;
+    write(rt, b"a name of 64 bytes:", 122, 2, &[b'n'; 64], many)?;
+    write(rt, b"a name with a zero:", 122, 2, b"a\0\xff", many)?;
+    write(rt, b"a name that breaks off:", 122, 2, b"ab\xc3", many)?;
+    write(rt, b"just room:", 122, 2, b"ab\xc3\xa9", many)
 }
 
 // 25 and 26 come first, also for a page without the fault and for none.
-fn faults_of_the_list(words: &[u8], many: &[u16]) {
-    write(words, PACKET_ROOM, 0, b"", many);
-    write(words, 0, 3, b"\0", many);
+fn faults_of_the_list(rt: &impl Print, words: &[u8], many: &[u16]) -> io::Result<()> {
+    write(rt, words, PACKET_ROOM, 0, b"", many)?;
+    write(rt, words, 0, 3, b"\0", many)
 }
 
-fn tell(words: &[u8], answer: Answer) {
+fn tell(rt: &impl Print, words: &[u8], answer: Answer) -> io::Result<()> {
     let mut out = [0; LINE_ROOM];
     let at = text::put(&mut out, 0, words);
     let at = crate::put_answer(&mut out, at, answer);
-    crate::end_line(&mut out, at);
+    crate::end_line(rt, &mut out, at)
 }
 
 // Feeds what is no page, and tells what became of it.
 fn feed_other(
+    rt: &impl Print,
     words: &[u8],
     collector: Collector,
     datagram: &[u8],
     memory: &mut [u16],
     list: &mut [u16],
-) -> Collector {
+) -> io::Result<Collector> {
     let done = page_collector::collect(collector, datagram, memory, list);
     let answer = done.answer;
-    tell(words, answer);
-    done.collector
+    tell(rt, words, answer)?;
+    Ok(done.collector)
 }
 
-fn feed_others(collector: Collector, memory: &mut [u16], list: &mut [u16]) -> Collector {
+fn feed_others(
+    rt: &impl Print,
+    collector: Collector,
+    memory: &mut [u16],
+    list: &mut [u16],
+) -> io::Result<Collector> {
     let mut packet = [0; 49];
     let fields = SynchronizationFields {
         sequence_number: 7,
         synchronization_address: 8000,
     };
     pack::pack_synchronization(&mut packet, CID, fields);
-    let collector = feed_other(b"a sync packet:", collector, &packet, memory, list);
-    feed_other(b"nothing:", collector, b"", memory, list)
+    let collector = feed_other(rt, b"a sync packet:", collector, &packet, memory, list)?;
+    feed_other(rt, b"nothing:", collector, b"", memory, list)
 }
 
 fn feed_page(
+    rt: &impl Print,
     words: &[u8],
     collector: Collector,
     cid: [u8; 16],
@@ -95,54 +110,84 @@ fn feed_page(
     sent: &[u16],
     memory: &mut [u16],
     list: &mut [u16],
-) -> Collector {
+) -> io::Result<Collector> {
     let done = crate::fed(collector, cid, page, sent, memory, list);
     let answer = done.answer;
-    tell(words, answer);
-    done.collector
+    tell(rt, words, answer)?;
+    Ok(done.collector)
 }
 
 // One number less than two pages need.
 fn feed_without_room(
+    rt: &impl Print,
     collector: Collector,
     sent: &[u16],
     memory: &mut [u16],
     list: &mut [u16],
-) -> Collector {
+) -> io::Result<Collector> {
     let mut less = [0; 1023];
-    let collector = feed_page(b"memory of 1023:", collector, CID, 0, sent, &mut less, list);
-    feed_page(b"list of 1023:", collector, CID, 0, sent, memory, &mut less)
+    let collector = feed_page(
+        rt,
+        b"memory of 1023:",
+        collector,
+        CID,
+        0,
+        sent,
+        &mut less,
+        list,
+    )?;
+    feed_page(
+        rt,
+        b"list of 1023:",
+        collector,
+        CID,
+        0,
+        sent,
+        memory,
+        &mut less,
+    )
 }
 
 // What is refused between two pages, and moves nothing.
 fn feed_between(
+    rt: &impl Print,
     collector: Collector,
     sent: &[u16],
     memory: &mut [u16],
     list: &mut [u16],
-) -> Collector {
+) -> io::Result<Collector> {
     let words = b"another desk, no room:";
-    let collector = feed_others(collector, memory, list);
-    let collector = feed_page(words, collector, OTHER_CID, 0, sent, &mut [], &mut []);
-    feed_without_room(collector, sent, memory, list)
+    let collector = feed_others(rt, collector, memory, list)?;
+    let collector = feed_page(rt, words, collector, OTHER_CID, 0, sent, &mut [], &mut [])?;
+    feed_without_room(rt, collector, sent, memory, list)
 }
 
-fn collecting(many: &[u16], memory: &mut [u16], list: &mut [u16]) {
+fn collecting(
+    rt: &impl Print,
+    many: &[u16],
+    memory: &mut [u16],
+    list: &mut [u16],
+) -> io::Result<()> {
     let sent = crate::first(many, 513);
     let collector = Collector::new(CID);
-    let collector = feed_page(b"page 1 of 513:", collector, CID, 1, sent, memory, list);
-    let collector = feed_between(collector, sent, memory, list);
-    feed_page(b"page 0 of 513:", collector, CID, 0, sent, memory, list);
+    let collector = feed_page(rt, b"page 1 of 513:", collector, CID, 1, sent, memory, list)?;
+    let collector = feed_between(rt, collector, sent, memory, list)?;
+    feed_page(rt, b"page 0 of 513:", collector, CID, 0, sent, memory, list)?;
+    Ok(())
 }
 
-pub(crate) fn cases(memory: &mut [u16], list: &mut [u16]) {
+pub(crate) fn cases(rt: &impl Print, memory: &mut [u16], list: &mut [u16]) -> io::Result<()> {
     let mut many = [0; MANY];
     crate::fill(&mut many, true);
-    numbers_of_pages(&many);
-    faults_of_a_packet(&many);
+    numbers_of_pages(rt, &many)?;
+    faults_of_a_packet(rt, &many)?;
     many[1024] = 1024;
-    faults_of_the_list(b"equal on page 2, page 0 or no page asked for:", &many);
+    faults_of_the_list(rt, b"equal on page 2, page 0 or no page asked for:", &many)?;
     many[1024] = 7;
-    faults_of_the_list(b"falling on page 2, page 0 or no page asked for:", &many);
-    collecting(&many, memory, list);
+    faults_of_the_list(
+        rt,
+        b"falling on page 2, page 0 or no page asked for:",
+        &many,
+    )?;
+    collecting(rt, &many, memory, list)
 }

@@ -1,6 +1,7 @@
 // Lists of ours, whose pages come in another order than theirs, some of them twice, each with a page of another desk behind.
 use crate::{CID, LINE_ROOM, OTHER_CID, SPOILT};
 use page_collector::{Answer, Collector};
+use std::io;
 
 const MOST_UNIVERSES: usize = 63_999;
 
@@ -167,7 +168,14 @@ fn put_verdict(out: &mut [u8], at: usize, same: bool) -> usize {
     text::put(out, at, b", and not what was sent")
 }
 
-fn tell(sent: &[u16], pages: usize, turns: usize, tally: Tally, list: &[u16]) {
+fn tell(
+    rt: &impl Print,
+    sent: &[u16],
+    pages: usize,
+    turns: usize,
+    tally: Tally,
+    list: &[u16],
+) -> io::Result<()> {
     let count = tally.count;
     let mut out = [0; LINE_ROOM];
     let at = text::put_field(&mut out, 0, b"universes ", sent.len() as u64);
@@ -176,34 +184,51 @@ fn tell(sent: &[u16], pages: usize, turns: usize, tally: Tally, list: &[u16]) {
     let at = put_tally(&mut out, at, tally);
     let at = put_ends(&mut out, at, count, list);
     let at = put_verdict(&mut out, at, came_back(sent, count, list));
-    crate::end_line(&mut out, at);
+    crate::end_line(rt, &mut out, at)
 }
 
 // A list of n universes, which makes so many pages.
-fn trip(all: &[u16], n: usize, pages: u8, memory: &mut [u16], list: &mut [u16]) {
+fn trip(
+    rt: &impl Print,
+    all: &[u16],
+    n: usize,
+    pages: u8,
+    memory: &mut [u16],
+    list: &mut [u16],
+) -> io::Result<()> {
     let sent = crate::first(all, n);
     let pages = pages as usize;
     let turns = 3 * pages;
     crate::fill(list, false);
     let tally = collected(sent, turns, pages, memory, list);
-    tell(sent, pages, turns, tally, list);
+    tell(rt, sent, pages, turns, tally, list)
 }
 
-fn lists_of_one_page(all: &[u16], memory: &mut [u16], list: &mut [u16]) {
-    trip(all, 0, 1, memory, list);
-    trip(all, 1, 1, memory, list);
-    trip(all, 512, 1, memory, list);
+fn lists_of_one_page(
+    rt: &impl Print,
+    all: &[u16],
+    memory: &mut [u16],
+    list: &mut [u16],
+) -> io::Result<()> {
+    trip(rt, all, 0, 1, memory, list)?;
+    trip(rt, all, 1, 1, memory, list)?;
+    trip(rt, all, 512, 1, memory, list)
 }
 
-fn lists_of_more_pages(all: &[u16], memory: &mut [u16], list: &mut [u16]) {
-    trip(all, 513, 2, memory, list);
-    trip(all, 1024, 2, memory, list);
-    trip(all, MOST_UNIVERSES, 125, memory, list);
+fn lists_of_more_pages(
+    rt: &impl Print,
+    all: &[u16],
+    memory: &mut [u16],
+    list: &mut [u16],
+) -> io::Result<()> {
+    trip(rt, all, 513, 2, memory, list)?;
+    trip(rt, all, 1024, 2, memory, list)?;
+    trip(rt, all, MOST_UNIVERSES, 125, memory, list)
 }
 
-pub(crate) fn lists(memory: &mut [u16], list: &mut [u16]) {
+pub(crate) fn lists(rt: &impl Print, memory: &mut [u16], list: &mut [u16]) -> io::Result<()> {
     let mut all = [0; MOST_UNIVERSES];
     crate::fill(&mut all, true);
-    lists_of_one_page(&all, memory, list);
-    lists_of_more_pages(&all, memory, list);
+    lists_of_one_page(rt, &all, memory, list)?;
+    lists_of_more_pages(rt, &all, memory, list)
 }

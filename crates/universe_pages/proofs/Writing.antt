@@ -1,7 +1,7 @@
 -- The checks of a written page, as the code goes through them; and a page is a discovery packet. Assumes nothing.
 use Prim.Native.Nat.{ℕ, ◌≤◌}
 use mathlib.Core.Path.{◌≡◌, sym, ap, ◌∙◌}
-use mathlib.Core.List.{List, [], ◌∷◌, ◌++◌}
+use mathlib.Core.List.{List, [], ◌∷◌}
 use lib.ListN.{length}
 use Rattle.refusal.specs.Check.{reading, checked_of}
 use Rattle.refusal.proofs.Tests.{Holds}

@@ -34,39 +34,51 @@ fn put_entry(out: &mut [u8], at: usize, n: u64, datagram: &[u8]) -> usize
 }
 
 // What follows n entries.
-fn turn(block: &mut [u8], entry: &mut [u8], out: &mut [u8], state: State, n: u64) -> State
+fn turn(
+    rt: &(impl Input + Print + Eprint),
+    block: &mut [u8],
+    entry: &mut [u8],
+    out: &mut [u8],
+    state: State,
+    n: u64,
+) -> State
     requires { (n < 0xffff_ffff_ffff_ffff) × (length entry.old ≡ 8192) }
     ensures { TurnAfter telling n state block.old block.new out.old out.new result }
 {
-    let found = turns::take(block, entry, state);
+    let found = turns::take(rt, block, entry, state);
     let next = found.next;
     let taken = found.state;
     match next {
         Next::Entry { len } => {
             let end = put_entry(out, taken.at, n + 1, wire::part(entry, 0, len));
-            turns::go_on(out, end, taken)
+            turns::go_on(rt, out, end, taken)
         }
-        _ => turns::finish(out, taken.at, next, n, taken),
+        _ => turns::finish(rt, out, taken.at, next, n, taken),
     }
 }
 
 // The whole program: turns until one stops. The buffers hold the longest entry, one with its length, and a line.
-fn run(block: &mut [u8], entry: &mut [u8], out: &mut [u8]) -> State
+fn run(
+    rt: &(impl Input + Print + Eprint),
+    block: &mut [u8],
+    entry: &mut [u8],
+    out: &mut [u8],
+) -> State
     requires { (length entry.old ≡ 8192) × (8194 ≤ length block.old) × (40000 ≤ length out.old) }
     ensures { Ran telling block.old out.old block.new out.new result }
 {
     let mut state = turns::begin();
     let mut n = 0;
     while state.going && n < MOST_ENTRIES {
-        state = turn(block, entry, out, state, n);
+        state = turn(rt, block, entry, out, state, n);
         n += 1;
     }
     state
 }
 
-fn main() {
+fn main(rt: HostRuntime) {
     let mut block = [0; BLOCK];
     let mut entry = [0; LONGEST_ENTRY];
     let mut out = [0; BLOCK];
-    run(&mut block, &mut entry, &mut out);
+    run(&rt, &mut block, &mut entry, &mut out);
 }

@@ -1,6 +1,5 @@
 use Prim.Native.Nat.{◌-◌, ◌*◌, ◌/◌, ◌+◌}
 use mathlib.Core.Path.{◌≡◌, refl, sym, ap, ◌∙◌}
-use mathlib.Core.Logic.{⊎_elim}
 use native.Mathlib.Omega.{arith}
 use lib.ListN.{length}
 use Rattle.refusal.specs.declared.Identity.{Identity}
@@ -29,8 +28,8 @@ returns c = let list = c.args.list.now in
     let i = c.loop-i.i in
     let named : Names (list_checks list (length list / 2)) c.args.refusal (identity why.Order (120 + 2 * i)) =
     elim c.loop-i-test.branch [
-      then-loop-i-test+else-rises w ↦
-      order_named list (u16_at list (2 * i - 2)) (u16_at list (2 * i)) i w.loop-i-test.true refl c.args.refusal (w.rises.ensures.down w.if-rises.false) c.loop-i.invariant.2 c.requires
-    | else-loop-i-test w ↦ absurd (not_done list (u16_at list (2 * i - 2)) i c.args.refusal w.loop-i-test.false c.loop-i.invariant.2 c.requires)
+      | then-loop-i-test+else-rises w ↦
+          order_named list (u16_at list (2 * i - 2)) (u16_at list (2 * i)) i w.loop-i-test.true refl c.args.refusal (w.rises.ensures.down w.if-rises.false) c.loop-i.invariant.2 c.requires
+      | else-loop-i-test w ↦ absurd (not_done list (u16_at list (2 * i - 2)) i c.args.refusal w.loop-i-test.false c.loop-i.invariant.2 c.requires)
     ] in
     named ∙ ap (λ (x : Identity). Refused (fault c.args.refusal x)) (sym c.at.ensures)

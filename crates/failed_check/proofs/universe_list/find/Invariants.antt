@@ -1,6 +1,5 @@
 use Prim.Native.Nat.{◌-◌, ◌*◌, ◌+◌, ◌≤◌}
 use lib.ListN.{length}
-use Rattle.refusal.specs.declared.Reason.TheVariants as why
 use Rattle.wire.specs.Fields.{u16_at}
 use Rattle.failed_check.proofs.Order.{AsFrom}
 use Rattle.failed_check.proofs.universe_list.find.Given as goal

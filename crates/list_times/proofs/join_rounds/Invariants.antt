@@ -1,0 +1,10 @@
+use Prim.Native.Nat.{◌≤◌, ◌-◌}
+use mathlib.Core.Path.{◌≡◌}
+use lib.ListN.{length}
+use Rattle.list_times.proofs.join_rounds.Given as goal
+
+abbrev pub invariant-loop-round : goal.invariant-loop-round
+invariant-loop-round l = (l.round ≤ l.rounds) × (length l.memory ≡ length l.initial.memory) × (length l.list ≡ length l.initial.list)
+
+abbrev pub decreases-loop-round : goal.decreases-loop-round
+decreases-loop-round l = l.rounds - l.round
