@@ -74,29 +74,36 @@ fn put_answer(out: &mut [u8], at: usize, n: u64, request: &[u8]) -> usize {
 }
 
 // What follows n entries.
-fn turn(block: &mut [u8], entry: &mut [u8], out: &mut [u8], state: State, n: u64) -> State
+fn turn(
+    rt: &(impl Input + Print + Eprint),
+    block: &mut [u8],
+    entry: &mut [u8],
+    out: &mut [u8],
+    state: State,
+    n: u64,
+) -> State
     requires { n < 0xffff_ffff_ffff_ffff }
 {
-    let found = turns::take(block, entry, state);
+    let found = turns::take(rt, block, entry, state);
     let next = found.next;
     let taken = found.state;
     match next {
         Next::Entry { len } => {
             let end = put_answer(out, taken.at, n + 1, wire::part(entry, 0, len));
-            turns::go_on(out, end, taken)
+            turns::go_on(rt, out, end, taken)
         }
-        _ => turns::finish(out, taken.at, next, n, taken),
+        _ => turns::finish(rt, out, taken.at, next, n, taken),
     }
 }
 
-fn main() {
+fn main(rt: HostRuntime) {
     let mut block = [0; BLOCK];
     let mut entry = [0; LONGEST_ENTRY];
     let mut out = [0; BLOCK];
     let mut state = turns::begin();
     let mut n = 0;
     while state.going && n < MOST_ENTRIES {
-        state = turn(&mut block, &mut entry, &mut out, state, n);
+        state = turn(&rt, &mut block, &mut entry, &mut out, state, n);
         n += 1;
     }
 }
