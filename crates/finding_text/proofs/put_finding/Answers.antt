@@ -14,10 +14,13 @@ returns-in-Readable c = let is : finding_text c.args.datagram.now c.args.told â‰
 pub returns-in-Refused : goal.returns-in-Refused
 returns-in-Refused c = let f = c.in-Refused.fault in
     let is : finding_text c.args.datagram.now c.args.told â‰¡ where_text f.check.byte f.refusal.place ++ wrong_text c.args.datagram.now f =
-    ap (finding_text c.args.datagram.now) c.in-Refused.is in record { put = put_as (put_then c.put_where-next.ensures.put c.put_wrong.ensures.put) is; told_len_bound = omega (
+    ap (finding_text c.args.datagram.now) c.in-Refused.is in record {
+      put = put_as (put_then c.put_where-next.ensures.put c.put_wrong.ensures.put) is;
+      told_len_bound = omega (
         arith,
         ap length is,
         length-append (where_text f.check.byte f.refusal.place) (wrong_text c.args.datagram.now f),
         c.put_where-next.ensures.place_len_bound,
         c.put_wrong.ensures.fault_len_bound,
-      ) }
+      );
+    }
