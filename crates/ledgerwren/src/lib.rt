@@ -51,10 +51,7 @@ pub fn ledgerwren1_pack_data(
     c_answers::packed_outcome(pack::pack_data(buf, cid, fields, name, values))
 }
 
-pub fn ledgerwren1_pack_synchronization(
-    buf: &mut [u8],
-    header: SynchronizationHeader,
-) -> Outcome
+pub fn ledgerwren1_pack_synchronization(buf: &mut [u8], header: SynchronizationHeader) -> Outcome
     ensures answer { result ≡ packed_outcome (synchronization_answer (length buf.old)) }
     ensures bytes { buf.new ≡ after_pack (synchronization_answer (length buf.old)) (synchronization_bytes header.cid header.fields) buf.old }
 {

@@ -11,7 +11,11 @@ use std::path::Path;
 pub const EXPORTS: &str = "ledgerwren_c/lib.rt";
 
 /// Libraries that are not exported, and whose refusals have no name in the header: those are their constants.
-const NOT_EXPORTED: [&str; 2] = ["page_collector/lib.rt", "universe_pages/lib.rt"];
+const NOT_EXPORTED: [&str; 3] = [
+    "page_collector/lib.rt",
+    "name_pattern/lib.rt",
+    "universe_pages/lib.rt",
+];
 
 /// The first of the places; the constants before it are the numbers of refusals.
 const FIRST_PLACE: &str = "NOWHERE";
