@@ -5,7 +5,7 @@ use Rattle.parts.proofs as Parts
 use Rattle.view.proofs as View
 use Rattle.c_answers.proofs as CAnswers
 use Rattle.ledgerwren.proofs as Ledgerwren
-use Rattle.demands.proofs.Contracts.{Settled, settled, SettledAs, settled_as, SettledWith, settled_with, SettledBy, facts}
+use Rattle.demands.proofs.Contracts.{Settled, settled, SettledAs, settled_as, SettledWith, settled_with}
 
 -- parts
 pub kind_of : Settled Parts.plain.kind_of.Reads.Learnt

@@ -110,4 +110,3 @@ module _ (T : RattleType) (L : Laws T) (G1 : Print.Ghosts T.Denot) (d1 : Dict) (
   finish k a r s e f p q same =
       let wrote = same_write r.wrote s.wrote (p.handed ∙ sym q.handed) same in
       (p.done ∙ ap (over _) wrote ∙ sym q.done, p.text ∙ sym q.text)
-
