@@ -10,11 +10,7 @@ use Rattle.turns.proofs.Run.{no_turns, entries_so_far, turn_more}
 use Rattle.why.proofs.run.Goals as goal
 
 pub loop-state-init : goal.loop-state-init
-<<<<<<<< HEAD:crates/why/proofs/run/Answers.antt
 loop-state-init g c = rw c.begin-state.ensures (refl, refl, refl, omega arith, ([], no_turns telling _ _))
-========
-loop-state-init g c = rw c.begin-state.ensures (refl, refl, refl, omega arith, ([], no_turns dumping _ _))
->>>>>>>> e8c3902 (Why over std's input and output):crates/dump/proofs/run/Answers.antt
 
 pub loop-state-preserved : goal.loop-state-preserved
 loop-state-preserved g c = let goes : c.loop-state.state.going ≡ true = cc in
