@@ -75,7 +75,7 @@ fn date(file: &Path) -> SystemTime {
 
 /// Runs the example, which cargo builds beside the tests.
 fn export(words: &[&str], input: &[u8]) -> Output {
-    // Under an emulator the running file is the loader; the first word is the test itself.
+    // The first word is the test itself.
     let test = PathBuf::from(env::args().next().expect("the test's path"));
     let folder = test
         .ancestors()

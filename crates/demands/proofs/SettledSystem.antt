@@ -110,3 +110,8 @@ module _ (T : RattleType) (L : Laws T) (G1 : Print.Ghosts T.Denot) (d1 : Dict) (
   finish k a r s e f p q same =
       let wrote = same_write r.wrote s.wrote (p.handed ∙ sym q.handed) same in
       (p.done ∙ ap (over _) wrote ∙ sym q.done, p.text ∙ sym q.text)
+
+-- a line on standard error: nothing is answered
+module _ (T : RattleType) (L : Laws T) (G : Eprint.Ghosts T.Denot) (d : Dict) where
+  pub tell_failure : Settled (StandardIo.tell_failure.Reads.Learnt T L G d)
+  tell_failure k a r s e f p q = λ i. r

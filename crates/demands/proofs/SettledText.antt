@@ -7,6 +7,7 @@ use Rattle.line.proofs as Line
 use Rattle.wrong_words.proofs as WrongWords
 use Rattle.wanted_words.proofs as WantedWords
 use Rattle.finding_text.proofs as FindingText
+use Rattle.name_pattern.proofs as NamePattern
 use Rattle.demands.proofs.Contracts.{Settled, settled, SettledWith, settled_with}
 
 -- capture
@@ -67,3 +68,10 @@ put_wanted = settled_with (λ k a r e p. (p.place, p.written))
 
 pub put_finding : SettledWith FindingText.put_finding.Reads.Learnt (λ k e. e.0.now)
 put_finding = settled_with (λ k a r e p. (p.0.place, p.0.written))
+
+-- which names a pattern picks
+pub check_pattern : Settled NamePattern.check_pattern.Reads.Learnt
+check_pattern = settled (λ k a r e p. p)
+
+pub picks : Settled NamePattern.picks.Reads.Learnt
+picks = settled (λ k a r e p. p)

@@ -105,8 +105,8 @@ fn answered(got: isize, count: usize, len: usize) -> Said
     Said::Bytes { len }
 }
 
-// Reads once, behind the first len bytes of the block, by a reader that takes nothing ahead. A block with no room is
-// an error: a read of no bytes would look like the input's end.
+// Reads once, behind the first len bytes of the block; std's reader takes nothing ahead. A block with no room is an
+// error: a read of no bytes would look like the input's end.
 fn ask(rt: &impl Input, block: &mut [u8], len: usize) -> Said
     ensures block_unchanged { take len block.new ≡ take len block.old }
     ensures arrived { Arrived len (length block.old) result }
