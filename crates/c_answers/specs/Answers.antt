@@ -1,12 +1,8 @@
 -- Answers as structs: an enum's case as a number, its record beside it, and zeros in the records of the other cases.
-use Rattle.std.specs.Prelude.{ℕ, false, List, replicate}
-use Rattle.refusal.specs.Check.{refusal, nowhere}
+use Rattle.std.specs.Prelude.{ℕ, false, List, replicate, Result, Ok, Err}
+use Rattle.refusal.specs.Check.{refusal, nowhere, Checked}
 use Rattle.refusal.specs.declared.Refusal.{Refusal}
-use Rattle.refusal.specs.declared.Checked.{Checked}
-use Rattle.refusal.specs.declared.Checked.TheVariants as checked
 use Rattle.universe.specs.declared.Ipv4Address.{Ipv4Address}
-use Rattle.universe.specs.declared.Multicast.{Multicast}
-use Rattle.universe.specs.declared.Multicast.TheVariants as multicast
 use Rattle.discovery.specs.declared.DiscoveryFields.{DiscoveryFields}
 use Rattle.framing.specs.declared.DataFields.{DataFields}
 use Rattle.extended.specs.declared.synchronization.SynchronizationFields.{SynchronizationFields}
@@ -17,15 +13,9 @@ use Rattle.packet.specs.declared.DiscoveryRecord.{DiscoveryRecord}
 use Rattle.packet.specs.declared.Packet.{Packet}
 use Rattle.packet.specs.declared.Packet.TheVariants as packet
 use Rattle.packet.specs.declared.Reading.{Reading}
-use Rattle.parts.specs.declared.Copied.{Copied}
-use Rattle.parts.specs.declared.Copied.TheVariants as copied
-use Rattle.pack.specs.declared.Packed.{Packed}
-use Rattle.pack.specs.declared.Packed.TheVariants as packed
 use Rattle.edition2009.specs.declared.DataFields2009.{DataFields2009}
-use Rattle.edition2009.specs.declared.DataRecord2009.{DataRecord2009}
 use Rattle.edition2009.specs.declared.Packet2009.{Packet2009}
 use Rattle.edition2009.specs.declared.Packet2009.TheVariants as packet2009
-use Rattle.edition2009.specs.declared.Reading2009.{Reading2009}
 use Rattle.c_answers.specs.declared.Found.{Found}
 use Rattle.c_answers.specs.declared.Found2009.{Found2009}
 use Rattle.c_answers.specs.declared.Outcome.{Outcome}
@@ -72,7 +62,7 @@ refused_found r = record {
   universes = no_span;
 }
 
-abbrev pub data_found : List ℕ → DataRecord → Found
+abbrev pub data_found : List ℕ → DataRecord DataFields → Found
 data_found c x = record {
   kind = 1;
   cid = c;
@@ -117,7 +107,7 @@ found_in c (packet.Synchronization x) = synchronization_found c x
 found_in c (packet.Discovery x) = discovery_found c x
 found_in c (packet.Refused r) = refused_found r
 
-abbrev pub found_of : Reading → Found
+abbrev pub found_of : Reading Packet → Found
 found_of x = found_in x.cid x.packet
 
 -- the same of the 2009 reader
@@ -127,35 +117,32 @@ no_data2009 = record { priority = 0; sequence_number = 0; preview_data = false; 
 abbrev pub refused2009 : Refusal → Found2009
 refused2009 r = record { kind = 0; cid = no_cid; refusal = r; data_fields = no_data2009; name = no_span; values = no_span }
 
-abbrev pub data2009 : List ℕ → DataRecord2009 → Found2009
+abbrev pub data2009 : List ℕ → DataRecord DataFields2009 → Found2009
 data2009 c x = record { kind = 1; cid = c; refusal = no_refusal; data_fields = x.fields; name = x.name; values = x.values }
 
 abbrev pub found2009_in : List ℕ → Packet2009 → Found2009
 found2009_in c (packet2009.Data x) = data2009 c x
 found2009_in c (packet2009.Refused r) = refused2009 r
 
-abbrev pub found2009_of : Reading2009 → Found2009
+abbrev pub found2009_of : Reading Packet2009 → Found2009
 found2009_of x = found2009_in x.cid x.packet
 
 -- the other answers: a refusal with the number 0 is none
 abbrev pub outcome : Refusal → ℕ → Outcome
 outcome r n = record { refusal = r; count = n }
 
-abbrev pub packed_outcome : Packed → Outcome
-packed_outcome (packed.Length n) = outcome no_refusal n
-packed_outcome (packed.Refused r) = outcome r 0
-
-abbrev pub copied_outcome : Copied → Outcome
-copied_outcome (copied.Universes n) = outcome no_refusal n
-copied_outcome (copied.Refused r) = outcome r 0
+-- of a write or a copy
+abbrev pub outcome_of : Result ℕ Refusal → Outcome
+outcome_of (Ok n) = outcome no_refusal n
+outcome_of (Err r) = outcome r 0
 
 abbrev pub refusal_of : Checked → Refusal
-refusal_of checked.Passed = no_refusal
-refusal_of (checked.Refused r) = r
+refusal_of (Ok t) = no_refusal
+refusal_of (Err r) = r
 
 abbrev pub no_address : Ipv4Address
 no_address = record { highest = 0; second = 0; third = 0; lowest = 0; port = 0 }
 
-abbrev pub address_of : Multicast → Address
-address_of (multicast.Address a) = record { refusal = no_refusal; address = a }
-address_of (multicast.Refused r) = record { refusal = r; address = no_address }
+abbrev pub address_of : Result Ipv4Address Refusal → Address
+address_of (Ok a) = record { refusal = no_refusal; address = a }
+address_of (Err r) = record { refusal = r; address = no_address }

@@ -13,30 +13,26 @@ const GROUP: usize = 0x80;
 
 pub const LONGEST_ENTRY: usize = 8192;
 
-// The length in front of an entry, and how many bytes it takes up.
-#[derive(Clone, Copy)]
-pub enum Length {
-    Whole { len: usize, used: usize },
-    Bad,
-    Cut,
-    End,
-}
-
-// What stands at the front of a capture: an entry's bytes are the `len` from `start` on.
-#[derive(Clone, Copy)]
-pub enum Front {
-    Entry { start: usize, len: usize },
-    Bad,
-    Cut,
-    End,
-}
-
 // How a capture ends: at its end, inside an entry or its length, at a bad length.
 #[derive(Clone, Copy)]
 pub enum Ending {
     End,
     Cut,
     Bad,
+}
+
+// The length in front of an entry, and how many bytes it takes up.
+#[derive(Clone, Copy)]
+pub struct Length {
+    pub len: usize,
+    pub used: usize,
+}
+
+// An entry at the front of a capture: its bytes are the `len` from `start` on.
+#[derive(Clone, Copy)]
+pub struct Entry {
+    pub start: usize,
+    pub len: usize,
 }
 
 fn byte(s: &[u8], at: usize) -> usize
@@ -47,47 +43,41 @@ fn byte(s: &[u8], at: usize) -> usize
 }
 
 // The length, in its shortest form, of at most two groups, lowest first.
-pub fn parse_length(s: &[u8]) -> Length
+#[tactic(auto, using(refusal::proofs::Tests::chosen, refusal::proofs::Tests::passed_over), unfolding(crate::specs::Length::length_of))]
+pub fn parse_length(s: &[u8]) -> Result<Length, Ending>
     ensures { result ≡ length_of s.now }
 {
     if s.len() == 0 {
-        return Length::End;
+        return Err(Ending::End);
     }
     let low = byte(s, 0);
     if low <= LAST_GROUP {
-        return Length::Whole { len: low, used: 1 };
+        return Ok(Length { len: low, used: 1 });
     }
     if s.len() == 1 {
-        return Length::Cut;
+        return Err(Ending::Cut);
     }
     let high = byte(s, 1);
     if high == 0 {
-        return Length::Bad;
+        return Err(Ending::Bad);
     }
     if LAST_GROUP < high {
-        return Length::Bad;
+        return Err(Ending::Bad);
     }
     let len = high % GROUP * GROUP + low % GROUP;
     if LONGEST_ENTRY < len {
-        return Length::Bad;
+        return Err(Ending::Bad);
     }
-    Length::Whole { len, used: 2 }
+    Ok(Length { len, used: 2 })
 }
 
 // The entry, if all its bytes are there.
-pub fn parse_entry(s: &[u8]) -> Front
+pub fn parse_entry(s: &[u8]) -> Result<Entry, Ending>
     ensures { result ≡ front_of s.now }
 {
-    match parse_length(s) {
-        Length::End => Front::End,
-        Length::Cut => Front::Cut,
-        Length::Bad => Front::Bad,
-        Length::Whole { len, used } => {
-            if s.len() - used < len {
-                Front::Cut
-            } else {
-                Front::Entry { start: used, len }
-            }
-        }
+    let Length { len, used } = parse_length(s)?;
+    if s.len() - used < len {
+        return Err(Ending::Cut);
     }
+    Ok(Entry { start: used, len })
 }

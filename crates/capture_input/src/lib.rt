@@ -2,172 +2,131 @@
 // would cost more than the entry.
 #![tactic(auto)]
 
-ghost use Rattle.std.specs.Prelude.{◌≡◌, false, ◌+◌, ◌≤◌, length, take, drop};
-ghost use Rattle.std.proofs.lemmas.List.Edits.{sets};
+ghost use Rattle.std.specs.Prelude.{◌≡◌, false, ◌≤◌, length, take};
 ghost use Rattle.capture.specs.Entry.{front_of};
-ghost use Rattle.capture_input.specs.Entries.{waits_at, unread_in, More, Enough, Took, Because, Taken};
+ghost use Rattle.capture_input.specs.Entries.{nothing_read, waits_at, unread_in, More, Enough, Took, Because, Taken};
 ghost use Rattle.standard_io.specs.System.{is_error};
+ghost use Rattle.capture_input.specs.declared.Stop.TheVariants.{Ended};
 
-use capture::{Ending, Front};
+use capture::{Ending, Entry};
 use standard_io::Heard;
 
-// What is left of a block of input.
+// Why no entry was taken: the capture ends, or a read failed.
 #[derive(Clone, Copy)]
-pub struct Unread {
-    pub start: usize,
-    pub len: usize,
-}
-
-#[derive(Clone, Copy)]
-pub enum Next {
-    Entry { len: usize },
-    Stop(Ending),
+pub enum Stop {
+    Ended(Ending),
     Failed,
 }
 
-#[derive(Clone, Copy)]
-pub struct Step {
-    pub next: Next,
-    pub unread: Unread,
-    pub heard: Heard,
-}
+impl From<Ending> for Stop {
+    ghost from_gives = { λ ending stop. stop ≡ Ended ending };
 
-#[derive(Clone, Copy)]
-struct Filled {
-    unread: Unread,
-    heard: Heard,
+    fn from(ending: Ending) -> Stop {
+        Stop::Ended(ending)
+    }
 }
 
 // Whether more input could make an entry of these bytes.
 fn waits(s: &[u8]) -> bool
     ensures { result ≡ waits_at (front_of s.now) }
 {
-    match capture::parse_entry(s) {
-        Front::Entry { start: _, len: _ } => false,
-        Front::Bad => false,
-        Front::Cut => true,
-        Front::End => true,
-    }
+    matches!(capture::parse_entry(s), Err(Ending::Cut | Ending::End))
 }
 
-// Moves len bytes to the front of the block.
-fn shift(block: &mut [u8], start: usize, len: usize)
-    requires { start + len ≤ length block.old }
-    ensures { block.new ≡ sets block.old 0 (take len (drop start block.old)) }
-{
-    let mut i = 0;
-    while i < len {
-        block[i] = block[start + i];
-        i += 1;
-    }
+// What is left of a block of input, and what the system said to the last read.
+// The block itself is lent beside it, for `Ran` speaks of the block that the program hands over.
+#[derive(Clone, Copy)]
+pub struct Unread {
+    pub start: usize,
+    pub len: usize,
+    pub heard: Heard,
 }
 
-// Reads until the block's front is an entry, or can become none. Its first len bytes are unread.
-fn read_entry(rt: &impl Input, block: &mut [u8], len: usize, before: Heard) -> Filled
-    requires { len ≤ length block.old }
-    ensures more { More (take len block.old) (unread_in block.new result.unread) before result.heard }
-    ensures enough { Enough result.heard.said (front_of (unread_in block.new result.unread)) }
-{
-    let mut len = len;
-    let mut heard = standard_io::quiet(before);
-    while waits(&block[0..len]) {
-        heard = standard_io::read_more(rt, block, len, heard);
-        let more = standard_io::reached(heard, len);
-        if more <= len {
-            return Filled {
-                unread: Unread { start: 0, len },
-                heard,
-            };
+impl Unread {
+    // Before any read.
+    pub fn nothing() -> Unread
+        ensures { result ≡ nothing_read }
+    {
+        Unread {
+            start: 0,
+            len: 0,
+            heard: Heard::nothing(),
         }
-        len = more;
     }
-    Filled {
-        unread: Unread { start: 0, len },
-        heard,
-    }
-}
 
-// As many bytes as a next entry needs, if they are to be had.
-fn fill(rt: &impl Input, block: &mut [u8], unread: Unread, before: Heard) -> Filled
-    ensures more { More (unread_in block.old unread) (unread_in block.new result.unread) before result.heard }
-    ensures enough { Enough result.heard.said (front_of (unread_in block.new result.unread)) }
-{
-    let start = unread.start;
-    let len = wire::part(block, start, unread.len).len();
-    if len == 0 {
-        return read_entry(rt, block, 0, before);
-    }
-    if waits(&block[start..start + len]) {
-        shift(block, start, len);
-        return read_entry(rt, block, len, before);
-    }
-    Filled {
-        unread,
-        heard: standard_io::quiet(before),
-    }
-}
-
-fn take_entry(block: &[u8], entry: &mut [u8], unread: Unread, heard: Heard) -> Step
-    requires enough { Enough heard.said (front_of (unread_in block.now unread)) }
-    requires said_value { is_error heard.said ≡ false }
-    ensures took { Took (unread_in block.now unread) result.next (unread_in block.now result.unread) entry.old entry.new }
-    ensures because { Because result.next heard.said × (result.heard ≡ heard) }
-{
-    let first = unread.start;
-    let total = unread.len;
-    let s = wire::part(block, first, total);
-    match capture::parse_entry(s) {
-        Front::Entry { start, len } => {
-            let end = start + len;
-            wire::copy(entry, 0, &s[start..end]);
-            let behind = first + end;
-            let left = total - end;
-            Step {
-                next: Next::Entry { len },
-                unread: Unread {
-                    start: behind,
-                    len: left,
-                },
-                heard,
+    // Reads until the block's front is an entry, or can become none. Its first len bytes are unread.
+    fn read_entry(rt: &impl Input, block: &mut [u8], len: usize, before: Heard) -> Unread
+        requires { len ≤ length block.old }
+        ensures more { More (take len block.old) (unread_in block.new result) before result.heard }
+        ensures enough { Enough result.heard.said (front_of (unread_in block.new result)) }
+    {
+        let mut len = len;
+        let mut heard = before.quiet();
+        while waits(&block[0..len]) {
+            heard = heard.read_more(rt, block, len);
+            let more = heard.reached(len);
+            if more <= len {
+                break;
             }
+            len = more;
         }
-        Front::Bad => Step {
-            next: Next::Stop(Ending::Bad),
-            unread,
+        Unread {
+            start: 0,
+            len,
             heard,
-        },
-        Front::Cut => Step {
-            next: Next::Stop(Ending::Cut),
-            unread,
-            heard,
-        },
-        Front::End => Step {
-            next: Next::Stop(Ending::End),
-            unread,
-            heard,
-        },
+        }
     }
-}
 
-// Takes the next entry into `entry`. What is left unread is in `block`, where more input is read if need be.
-pub fn next_entry(
-    rt: &impl Input,
-    block: &mut [u8],
-    entry: &mut [u8],
-    unread: Unread,
-    before: Heard,
-) -> Step
-    ensures { Taken (unread_in block.old unread) result.next before result.heard (unread_in block.new result.unread) entry.old entry.new }
-{
-    let filled = fill(rt, block, unread, before);
-    let left = filled.unread;
-    let heard = filled.heard;
-    if standard_io::failed(heard) {
-        return Step {
-            next: Next::Failed,
-            unread: left,
-            heard,
-        };
+    // As many bytes as a next entry needs, if they are to be had.
+    fn fill(self, rt: &impl Input, block: &mut [u8]) -> Unread
+        ensures more { More (unread_in block.old self) (unread_in block.new result) self.heard result.heard }
+        ensures enough { Enough result.heard.said (front_of (unread_in block.new result)) }
+    {
+        let start = self.start;
+        let len = wire::part(block, start, self.len).len();
+        if len == 0 {
+            return Unread::read_entry(rt, block, 0, self.heard);
+        }
+        if waits(&block[start..start + len]) {
+            block.copy_within(start..start + len, 0);
+            return Unread::read_entry(rt, block, len, self.heard);
+        }
+        Unread {
+            heard: self.heard.quiet(),
+            ..self
+        }
     }
-    take_entry(block, entry, left, heard)
+
+    // Takes the entry at the front, where no more input can make one.
+    fn take_entry(&mut self, block: &[u8], entry: &mut [u8]) -> Result<usize, Stop>
+        requires enough { Enough self.old.heard.said (front_of (unread_in block.now self.old)) }
+        requires said_value { is_error self.old.heard.said ≡ false }
+        ensures took { Took (unread_in block.now self.old) result (unread_in block.now self.new) entry.old entry.new }
+        ensures because { Because result self.old.heard.said × (self.new.heard ≡ self.old.heard) }
+    {
+        let s = wire::part(block, self.start, self.len);
+        let Entry { start, len } = capture::parse_entry(s)?;
+        let end = start + len;
+        wire::copy(entry, 0, &s[start..end]);
+        self.start += end;
+        self.len -= end;
+        Ok(len)
+    }
+
+    // Takes the next entry into `entry`, and says how long it is. What is left unread is in `block`, where more input is read
+    // if need be.
+    pub fn next_entry(
+        &mut self,
+        rt: &impl Input,
+        block: &mut [u8],
+        entry: &mut [u8],
+    ) -> Result<usize, Stop>
+        ensures { Taken (unread_in block.old self.old) result self.old.heard self.new.heard (unread_in block.new self.new) entry.old entry.new }
+    {
+        *self = self.fill(rt, block);
+        if self.heard.failed() {
+            return Err(Stop::Failed);
+        }
+        self.take_entry(block, entry)
+    }
 }

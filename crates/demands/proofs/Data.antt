@@ -1,5 +1,6 @@
 -- Demand 3 for data packets: a packet that is written is read as its record; ignored places do not matter; and nothing else is read as that
 -- record. Assumes nothing.
+use Rattle.std.specs.Prelude.{Ok, Err}
 use Prim.Native.Nat.{ℕ, ◌+◌, ◌/◌, ◌≤◌, ◌<◌}
 use mathlib.Core.Path.{◌≡◌, refl, sym, ap, ◌∙◌}
 use mathlib.Core.List.{List, [], ◌∷◌, ◌++◌, append_assoc, append-nil}
@@ -23,7 +24,6 @@ use Rattle.packet.specs.declared.Packet.{Packet}
 use Rattle.packet.specs.declared.Packet.TheVariants.{Data}
 use Rattle.packet.specs.declared.Reading.{Reading}
 use Rattle.pack.specs.Writing.{root_head, values_check, count_check, data_write_checks, data_length, data_bytes, packed_of, after_pack}
-use Rattle.pack.specs.declared.Packed.TheVariants.{Length, Refused}
 use Rattle.pack.proofs.Writing.{data_long}
 use Rattle.demands.specs.Content.{data_content, content_of, meaning}
 use Rattle.demands.specs.Limits.{ReadableData}
@@ -38,7 +38,7 @@ use Rattle.demands.proofs.DataPlaces.{placed, placed_long, placed_back, name_par
 abbrev record_for : DataFields → ℕ → ℕ → Packet
 record_for f n m = Data (record { fields = f; name = span 44 n; values = span 125 m })
 
-abbrev reading_for : List ℕ → DataFields → ℕ → ℕ → Reading
+abbrev reading_for : List ℕ → DataFields → ℕ → ℕ → Reading Packet
 reading_for cid f n m = record { cid = cid; packet = record_for f n m }
 
 -- a reading from its parts: the list is a variable, so that nothing computes
@@ -162,13 +162,13 @@ module _ (cid : List ℕ) (f : DataFields) (name values : List ℕ) (h : Readabl
 -- length, and reading the buffer as it is then, the bytes behind the packet included, returns that record: kind, CID, plain fields, the
 -- name's bytes and the values.
 pub return_data : (cid : List ℕ) (f : DataFields) (name values buf : List ℕ) → ReadableData cid f name values → data_length values ≤ length buf →
-    (packed_of (data_write_checks (length buf) name values) (data_length values) ≡ Length (data_length values))
-    × (meaning (after_pack (Length (data_length values)) (data_bytes cid f name values) buf) ≡ data_content cid f name values)
+    (packed_of (data_write_checks (length buf) name values) (data_length values) ≡ Ok (data_length values))
+    × (meaning (after_pack (Ok (data_length values)) (data_bytes cid f name values) buf) ≡ data_content cid f name values)
 unfolding packed_of
 return_data cid f name values buf h room =
     let written : All (data_write_checks (length buf) name values) =
     (room, all_++ (written_name_checks name) (values_check (length values) ∷ count_check 513 (length values) ∷ []) h.named (h.some, (h.few, tt))) in (
-      all_hold Refused (data_write_checks (length buf) name values) (Length (data_length values)) written,
+      all_hold Err (data_write_checks (length buf) name values) (Ok (data_length values)) written,
       packet_meaning cid f name values h (drop (data_length values) buf),
     )
 

@@ -35,7 +35,7 @@ use Rattle.demands.proofs.DataLayer.{frame_with, Variant, name_of, only_frame}
 
 -- the record that the reader found, and what its parts are
 record Taken (cid : List ℕ) (f : DataFields) (name values d : List ℕ) : Type 0 where
-  found_record : DataRecord
+  found_record : DataRecord DataFields
   packet_is : packet_of d ≡ Data found_record
   cid_is : cid_of d ≡ cid
   fields_are : found_record.fields ≡ f
@@ -63,13 +63,13 @@ record Held (cid : List ℕ) (f : DataFields) (name values d : List ℕ) : Type 
   name_is : shown_at d (span 44 (zero_at (name_field (framing_part d)))) ≡ name
   values_are : shown_at d (span 125 (count_of (dmp_part (framing_part d) (length_of (framing_part d))))) ≡ values
 
-extended_never : (p : List ℕ) (x : DataRecord) → extended_record p ≡ Data x → ⊥
+extended_never : (p : List ℕ) (x : DataRecord DataFields) → extended_record p ≡ Data x → ⊥
 extended_never p x =
     choice (λ (y : Packet). y ≡ Data x → ⊥) (vector_of Four p =? 1) (Synchronization (synchronization_record p)) (Discovery (discovery_record p))
     (λ h e. let z : ◌≡◌ {A = ℕ} 0 1 = cc in omega arith) (λ h e. let z : ◌≡◌ {A = ℕ} 0 1 = cc in omega arith)
 
 module _ (cid : List ℕ) (f : DataFields) (name values d : List ℕ) (t : Taken cid f name values d) where
-  abbrev x : DataRecord
+  abbrev x : DataRecord DataFields
   x = t.found_record
 
   held_all : All (packet_checks d) × (record_of d ≡ Data x)
@@ -97,9 +97,9 @@ module _ (cid : List ℕ) (f : DataFields) (name values d : List ℕ) (t : Taken
             subst All (sym (chosen (root_vector d =? 4) (data_checks E2018 p) (extended_checks (length (root_part d)) p) v refl))
             (all_back outer (framing_checks d) held_all.0);
         cid_is = t.cid_is;
-        fields_are = ap (λ (y : DataRecord). y.fields) same ∙ t.fields_are;
-        name_is = ap (λ (y : DataRecord). shown_at d y.name) same ∙ t.name_is;
-        values_are = ap (λ (y : DataRecord). shown_at d y.values) same ∙ t.values_are;
+        fields_are = ap (λ (y : DataRecord DataFields). y.fields) same ∙ t.fields_are;
+        name_is = ap (λ (y : DataRecord DataFields). shown_at d y.name) same ∙ t.name_is;
+        values_are = ap (λ (y : DataRecord DataFields). shown_at d y.values) same ∙ t.values_are;
       }
 
 -- a part that is shown, where it lies in the datagram

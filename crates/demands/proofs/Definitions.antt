@@ -2,6 +2,7 @@
 -- Writing is the list of write checks, and then the bytes of its layout in front of what stood behind; a refusal leaves the buffer as found. The
 -- range is 1..63999 and 64214, and the address 239.255.high.low, port 5568. Last, four numbers that the crate has no kind for, and two whose kind is
 -- that the crate takes the packet. Assumes nothing.
+use Rattle.std.specs.Prelude.{Result, Ok, Err}
 use Prim.Native.Nat.{ℕ, ◌/◌, ◌%◌, ◌≤◌}
 use mathlib.Core.Path.{◌≡◌, refl, ap}
 use mathlib.Core.List.{List, [], ◌∷◌, map}
@@ -9,12 +10,10 @@ use mathlib.Core.Logic.{◌⊎◌, inl, inr, ⊎_elim}
 use native.Mathlib.Omega.{arith}
 use lib.ListN.{length}
 use Rattle.refusal.specs.declared.Refusal.{Refusal}
-use Rattle.refusal.specs.declared.Checked.TheVariants as checked
 use Rattle.refusal.specs.Check.{Numbered, ◌≤?◌, ◌=?◌, ◌and◌, choose, reading, checked_of, refusal, nowhere}
 use Rattle.refusal.proofs.Tests.{decide}
 use Rattle.refusal.proofs.Laws.{All, Stops, refusal_at, decides, all_hold, first_fails}
 use Rattle.universe.specs.Universe.{universe_checks, multicast_of}
-use Rattle.universe.specs.declared.Multicast.TheVariants as multicast
 use Rattle.discovery.specs.declared.DiscoveryFields.{DiscoveryFields}
 use Rattle.framing.specs.declared.DataFields.{DataFields}
 use Rattle.extended.specs.declared.synchronization.SynchronizationFields.{SynchronizationFields}
@@ -22,8 +21,6 @@ use Rattle.packet.specs.Packet.{packet_checks, record_of, packet_of, with_cid, r
 use Rattle.packet.specs.declared.Packet.TheVariants as packet
 use Rattle.packet.proofs.Whole.{whole}
 use Rattle.pack.specs.Writing.{data_bytes, synchronization_bytes, discovery_bytes, data_length, synchronization_length, discovery_length, data_write_checks, synchronization_write_checks, discovery_write_checks, packed_of, after_pack}
-use Rattle.pack.specs.declared.Packed.{Packed}
-use Rattle.pack.specs.declared.Packed.TheVariants as packed
 use Rattle.edition2009.specs.Packet.{packet_checks2009, data_record2009, packet2009_of, with_cid2009, reading2009_of}
 use Rattle.edition2009.specs.declared.Packet2009.TheVariants as old
 use Rattle.demands.specs.Definitions.{Writes, ByRange}
@@ -51,12 +48,12 @@ writes : (cs : List Numbered) (n : ℕ) (bytes buf : List ℕ) → Writes cs n b
 unfolding packed_of
 writes cs n bytes buf = by (decides cs)
   where
-    left : Packed → List ℕ
+    left : Result ℕ Refusal → List ℕ
     left r = after_pack r bytes buf
 
     by : All cs ⊎ ((k : ℕ) × Stops k cs) → Writes cs n bytes buf
-    by (inl a) = let e = all_hold packed.Refused cs (packed.Length n) a in inl (a, e, ap left e)
-    by (inr s) = let e = first_fails packed.Refused s.0 cs (packed.Length n) s.1 in inr (s.0, s.1, e, ap left e)
+    by (inl a) = let e = all_hold Err cs (Ok n) a in inl (a, e, ap left e)
+    by (inr s) = let e = first_fails Err s.0 cs (Ok n) s.1 in inr (s.0, s.1, e, ap left e)
 
 -- Writing, for each kind: by its checks at the buffer's length, its packet length and its bytes.
 pub writing_data_is : (cid : List ℕ) (f : DataFields) (name values buf : List ℕ) →
@@ -85,16 +82,16 @@ ranged refused u next =
     )))
 
 -- The range: a universe in it passes; any other is refused 30 with the universe as value.
-pub range_is : (u : ℕ) → ByRange u (checked_of (universe_checks u)) checked.Passed (checked.Refused (refusal 30 nowhere u))
+pub range_is : (u : ℕ) → ByRange u (checked_of (universe_checks u)) (Ok tt) (Err (refusal 30 nowhere u))
 unfolding checked_of
-range_is u = ranged checked.Refused u checked.Passed
+range_is u = ranged Err u (Ok tt)
 
 -- The address: a universe in the range has 239.255.high.low, port 5568; any other is refused 30 with the universe as value.
 pub address_is : (u : ℕ) →
-    ByRange u (multicast_of u) (multicast.Address (record { highest = 239; second = 255; third = u / 0x100; lowest = u % 0x100; port = 5568 }))
-    (multicast.Refused (refusal 30 nowhere u))
+    ByRange u (multicast_of u) (Ok (record { highest = 239; second = 255; third = u / 0x100; lowest = u % 0x100; port = 5568 }))
+    (Err (refusal 30 nowhere u))
 unfolding multicast_of
-address_is u = ranged multicast.Refused u (multicast.Address (record { highest = 239; second = 255; third = u / 0x100; lowest = u % 0x100; port = 5568 }))
+address_is u = ranged Err u (Ok (record { highest = 239; second = 255; third = u / 0x100; lowest = u % 0x100; port = 5568 }))
 
 -- The crate has no kind for 21, 22, 23 and 31, which document 01 adds to writing and copying.
 pub ours : map kind_of (21 ∷ 22 ∷ 23 ∷ 31 ∷ []) ≡ Ours ∷ Ours ∷ Ours ∷ Ours ∷ []

@@ -1,4 +1,5 @@
 -- Universe discovery packets: written and read again, copied out, ignored places, nothing else. Assumes nothing.
+use Rattle.std.specs.Prelude.{Ok, Err}
 use Prim.Native.Nat.{ℕ, ◌*◌, ◌/◌, ◌≤◌}
 use mathlib.Core.Path.{◌≡◌, refl, sym, ap, ◌∙◌}
 use mathlib.Core.List.{List, [], ◌∷◌, ◌++◌, append-nil}
@@ -15,9 +16,7 @@ use Rattle.discovery.specs.Universes.{order_checks}
 use Rattle.packet.specs.Packet.{span, packet_of, reading_of}
 use Rattle.parts.specs.Parts.{listed_at, universes_span, universes_in, copied_of, after_copy}
 use Rattle.packet.specs.declared.Packet.{Packet}
-use Rattle.parts.specs.declared.Copied.TheVariants as copied
 use Rattle.pack.specs.Writing.{discovery_bytes, discovery_length, discovery_write_checks, count_check, packed_of, after_pack}
-use Rattle.pack.specs.declared.Packed.TheVariants.{Length, Refused}
 use Rattle.demands.specs.Content.{discovery_content, meaning}
 use Rattle.demands.specs.Ignored.{AlikeDiscovery}
 use Rattle.demands.specs.Limits.{ReadableDiscovery}
@@ -31,24 +30,24 @@ use Rattle.demands.proofs.DiscoveryOnly.{datagram_is}
 -- reading the buffer as it is then returns that record: kind, CID, plain fields, the name's bytes, the universes.
 pub return_discovery : (cid : List ℕ) (f : DiscoveryFields) (name us buf : List ℕ) → ReadableDiscovery cid f name us →
     discovery_length us ≤ length buf →
-    (packed_of (discovery_write_checks (length buf) name us) (discovery_length us) ≡ Length (discovery_length us))
-    × (meaning (after_pack (Length (discovery_length us)) (discovery_bytes cid f name us) buf) ≡ discovery_content cid f name us)
+    (packed_of (discovery_write_checks (length buf) name us) (discovery_length us) ≡ Ok (discovery_length us))
+    × (meaning (after_pack (Ok (discovery_length us)) (discovery_bytes cid f name us) buf) ≡ discovery_content cid f name us)
 unfolding packed_of
 return_discovery cid f name us buf r room =
     let rest = drop (discovery_length us) buf in
     let counted : All (count_check 512 (length us) ∷ order_checks us) = (r.few, r.ascending) in
     let all : All (discovery_write_checks (length buf) name us) =
     (room, all_++ (written_name_checks name) (count_check 512 (length us) ∷ order_checks us) r.named counted) in (
-      all_hold Refused (discovery_write_checks (length buf) name us) (Length (discovery_length us)) all,
+      all_hold Err (discovery_write_checks (length buf) name us) (Ok (discovery_length us)) all,
       rw (packet_then cid f name us rest) (with_content cid f name us (name_bytes name) (be32 0) rest r (named_written name r.named.0) refl),
     )
 
 -- The universes that are copied out of it: as many as were written and these, and the numbers behind them as found.
 pub copied_discovery : (cid : List ℕ) (f : DiscoveryFields) (name us buf out : List ℕ) → ReadableDiscovery cid f name us →
     discovery_length us ≤ length buf → length us ≤ length out →
-    let d = after_pack (Length (discovery_length us)) (discovery_bytes cid f name us) buf in
-    (copied_of (packet_of d) (length out) ≡ copied.Universes (length us))
-    × (after_copy (copied.Universes (length us)) (universes_in d) out ≡ us ++ drop (length us) out)
+    let d = after_pack (Ok (discovery_length us)) (discovery_bytes cid f name us) buf in
+    (copied_of (packet_of d) (length out) ≡ Ok (length us))
+    × (after_copy (Ok (length us)) (universes_in d) out ≡ us ++ drop (length us) out)
 copied_discovery cid f name us buf out r room fits =
     let rest = drop (discovery_length us) buf in
     let named = named_written name r.named.0 in
@@ -62,7 +61,7 @@ copied_discovery cid f name us buf out r room fits =
     ap (λ (x : Packet). listed_at d (universes_span x)) e
     ∙ ap (λ (l : List ℕ). listed_at l (span 120 (2 * length us))) is
     ∙ with_universes cid f name us (name_bytes name) (be32 0) rest r named refl in (
-      rw e (all_hold copied.Refused (numbered (n ≤? length out) (refusal 31 nowhere 0) ∷ []) (copied.Universes n) (omega arith) ∙ rw half),
+      rw e (all_hold Err (numbered (n ≤? length out) (refusal 31 nowhere 0) ∷ []) (Ok n) (omega arith) ∙ rw half),
       rw listed (sets_front us out (length us) refl fits),
     )
 

@@ -1,5 +1,6 @@
 -- Demand 3, of the 2009 reader: it returns the same content for each field it knows, or refuses a packet that is no data packet by its root
 -- vector; and so it answers alike whatever stands in the ignored places and behind the packet. Assumes nothing.
+use Rattle.std.specs.Prelude.{Ok, Err}
 use Prim.Native.Nat.{ℕ, ◌≤◌}
 use mathlib.Core.Path.{◌≡◌, refl, sym, ap, ◌∙◌}
 use mathlib.Core.List.{List, ◌++◌}
@@ -7,7 +8,6 @@ use mathlib.Core.Logic.{⊎_elim}
 use native.Mathlib.Omega.{arith}
 use lib.ListN.{length}
 use Rattle.refusal.specs.declared.Refusal.{Refusal}
-use Rattle.refusal.specs.declared.Checked.TheVariants as checked
 use Rattle.refusal.specs.Check.{root, ◌=?◌, checked_of}
 use Rattle.refusal.proofs.Tests.{passed_over, choice}
 use Rattle.refusal.proofs.Laws.{All, found, all_hold, all_++, all_front, all_back}
@@ -23,10 +23,10 @@ use Rattle.packet.specs.declared.DataRecord.{DataRecord}
 use Rattle.packet.specs.declared.Packet.{Packet}
 use Rattle.packet.specs.declared.Packet.TheVariants.{Data, Synchronization, Discovery, Refused}
 use Rattle.pack.specs.Writing.{data_bytes, data_length, synchronization_bytes, synchronization_length, discovery_bytes, discovery_length, after_pack}
-use Rattle.pack.specs.declared.Packed.TheVariants.{Length}
 use Rattle.edition2009.specs.Editions.{dropped_fields, dropped_reading, before_vector}
 use Rattle.edition2009.specs.Packet.{reading2009_of}
-use Rattle.edition2009.specs.declared.Reading2009.{Reading2009}
+use Rattle.packet.specs.declared.Reading.{Reading}
+use Rattle.edition2009.specs.declared.Packet2009.{Packet2009}
 use Rattle.edition2009.proofs.Editions.{editions, eight}
 use Rattle.demands.specs.Content.{data_content, synchronization_content, discovery_content, content_of, meaning}
 use Rattle.demands.specs.Content2009.{data_content2009, content_with2009, meaning2009, refused_by_vector}
@@ -40,7 +40,7 @@ use Rattle.demands.proofs.Synchronization.{return_synchronization, ignored_synch
 use Rattle.demands.proofs.Discovery.{return_discovery, ignored_discovery}
 
 -- a data record has another root vector than 8
-not_eight : (d : List ℕ) (x : DataRecord) → packet_of d ≡ Data x → root_vector d ≡ 8 → ⊥
+not_eight : (d : List ℕ) (x : DataRecord DataFields) → packet_of d ≡ Data x → root_vector d ≡ 8 → ⊥
 unfolding packet_of
 not_eight d x e v =
     let p = framing_part d in
@@ -50,7 +50,7 @@ not_eight d x e v =
     (λ h q. let z : ◌≡◌ {A = ℕ} 0 1 = cc in omega arith) (λ h q. let z : ◌≡◌ {A = ℕ} 0 1 = cc in omega arith) extended
 
 -- so the 2009 reader answers with the two fields dropped
-kept : (d : List ℕ) (x : DataRecord) → packet_of d ≡ Data x → reading2009_of d ≡ dropped_reading (with_cid d (Data x))
+kept : (d : List ℕ) (x : DataRecord DataFields) → packet_of d ≡ Data x → reading2009_of d ≡ dropped_reading (with_cid d (Data x))
 unfolding reading_of
 kept d x e =
     ⊎_elim
@@ -71,7 +71,7 @@ dropped_2009 d cid f name values = by (packet_of d) refl
         (reading2009_of d ≡ dropped_reading (with_cid d (packet_of d))) × (meaning2009 d ≡ data_content2009 cid (dropped_fields f) name values)
     by (Data x) e m = (
       kept d x e ∙ sym (ap (λ (y : Packet). dropped_reading (with_cid d y)) e),
-      ap (λ (r : Reading2009). content_with2009 d r.cid r.packet) (kept d x e) ∙ cc,
+      ap (λ (r : Reading Packet2009). content_with2009 d r.cid r.packet) (kept d x e) ∙ cc,
     )
     by (Synchronization x) e m = let z : ◌≡◌ {A = ℕ} 0 1 = cc in absurd (omega arith)
     by (Discovery x) e m = let z : ◌≡◌ {A = ℕ} 0 1 = cc in absurd (omega arith)
@@ -94,10 +94,10 @@ by_vector d h v =
     all_++ (head_checks Four root p) (length_checks p len) (all_front (head_checks Four root p) (body_checks E2018 p len (vector_of Four p)) inner)
     (all_front (length_checks p len) (vector_checks E2018 (vector_of Four p) ++ cid_checks len) body) in
     eight d v
-    (all_hold checked.Refused (before_vector d) checked.Passed
+    (all_hold Err (before_vector d) (Ok tt)
     (all_++ (preamble_checks d) (head_checks Four root p ++ length_checks p len) (all_front (preamble_checks d) (root_checks E2018 p) h) start))
 
-extended_2009 : (d : List ℕ) (x : Packet) → ((r : Refusal) → Refused r ≡ x → ⊥) → ((y : DataRecord) → Data y ≡ x → ⊥) → packet_of d ≡ x →
+extended_2009 : (d : List ℕ) (x : Packet) → ((r : Refusal) → Refused r ≡ x → ⊥) → ((y : DataRecord DataFields) → Data y ≡ x → ⊥) → packet_of d ≡ x →
     reading2009_of d ≡ refused_by_vector d
 extended_2009 d x a b e = let s = extended_says d x a b e in by_vector d s.0 s.1
 
@@ -114,17 +114,17 @@ discovery_2009 d cid f name us m =
 
 -- Of a record that was written within the readable limits:
 pub return_data_2009 : (cid : List ℕ) (f : DataFields) (name values buf : List ℕ) → ReadableData cid f name values → data_length values ≤ length buf →
-    meaning2009 (after_pack (Length (data_length values)) (data_bytes cid f name values) buf) ≡ data_content2009 cid (dropped_fields f) name values
+    meaning2009 (after_pack (Ok (data_length values)) (data_bytes cid f name values) buf) ≡ data_content2009 cid (dropped_fields f) name values
 return_data_2009 cid f name values buf h k = known_2009 _ cid f name values (return_data cid f name values buf h k).1
 
 pub return_synchronization_2009 : (cid : List ℕ) (f : SynchronizationFields) (buf : List ℕ) → ReadableSynchronization cid f →
     synchronization_length ≤ length buf →
-    let d = after_pack (Length synchronization_length) (synchronization_bytes cid f) buf in reading2009_of d ≡ refused_by_vector d
+    let d = after_pack (Ok synchronization_length) (synchronization_bytes cid f) buf in reading2009_of d ≡ refused_by_vector d
 return_synchronization_2009 cid f buf h k = synchronization_2009 _ cid f (return_synchronization cid f buf h k).1
 
 pub return_discovery_2009 : (cid : List ℕ) (f : DiscoveryFields) (name us buf : List ℕ) → ReadableDiscovery cid f name us →
     discovery_length us ≤ length buf →
-    let d = after_pack (Length (discovery_length us)) (discovery_bytes cid f name us) buf in reading2009_of d ≡ refused_by_vector d
+    let d = after_pack (Ok (discovery_length us)) (discovery_bytes cid f name us) buf in reading2009_of d ≡ refused_by_vector d
 return_discovery_2009 cid f name us buf h k = discovery_2009 _ cid f name us (return_discovery cid f name us buf h k).1
 
 -- Of a datagram with other bytes in the ignored places, or more behind the packet:

@@ -20,6 +20,7 @@ use Rattle.extended.specs.Synchronization.{synchronization_checks}
 use Rattle.extended.specs.UniverseDiscovery.{discovery_framing_checks}
 use Rattle.root.specs.Root.{preamble_checks, root_part, vector_checks, length_checks, cid_checks, body_checks, root_checks}
 use Rattle.packet.specs.declared.DataRecord.{DataRecord}
+use Rattle.framing.specs.declared.DataFields.{DataFields}
 use Rattle.packet.specs.declared.SynchronizationRecord.{SynchronizationRecord}
 use Rattle.packet.specs.declared.DiscoveryRecord.{DiscoveryRecord}
 use Rattle.packet.specs.declared.Packet.{Packet}
@@ -71,7 +72,7 @@ root_vector_lem d h =
     (all_front vectors (cid_checks len) (all_back (length_checks p len) (vectors ++ cid_checks len) body)).0
 
 -- a datagram read as a packet that is no data: what the root layer says, and the checks of the framing layer
-pub extended_says : (d : List ℕ) (x : Packet) → ((r : Refusal) → Refused r ≡ x → ⊥) → ((y : DataRecord) → Data y ≡ x → ⊥) → packet_of d ≡ x →
+pub extended_says : (d : List ℕ) (x : Packet) → ((r : Refusal) → Refused r ≡ x → ⊥) → ((y : DataRecord DataFields) → Data y ≡ x → ⊥) → packet_of d ≡ x →
     Rooted d × (root_vector d ≡ 8) × All (extended_checks (length (root_part d)) (framing_part d)) × (extended_record (framing_part d) ≡ x)
 unfolding packet_of
 extended_says d x some other e =

@@ -1,5 +1,6 @@
 -- What 7 and 23 tell: of the name in the datagram, and of the name lent, how many leading bytes make whole characters. They are never all of it.
 -- In both readers, and in both writers that take a name. Assumes nothing.
+use Rattle.std.specs.Prelude.{Err}
 use Prim.Native.Nat.{ℕ, ◌-◌, ◌≤◌}
 use mathlib.Core.Path.{◌≡◌, refl, sym, ap, subst, ◌∙◌}
 use mathlib.Core.Bool.{true}
@@ -32,7 +33,6 @@ use Rattle.edition2009.specs.Packet.{reading2009_of}
 use Rattle.edition2009.specs.declared.Packet2009.TheVariants as old
 use Rattle.edition2009.proofs.Editions.{refused_with as refused-with-2009, each_check_2009}
 use Rattle.pack.specs.Writing.{room_check, values_check, count_check, data_length, discovery_length, data_write_checks, discovery_write_checks, packed_of}
-use Rattle.pack.specs.declared.Packed.TheVariants as packed
 use Rattle.pack.proofs.Table.{refused_with as write-refused-with, each_write}
 use Rattle.demands.specs.Spans.{name_text}
 use Rattle.demands.proofs.Segments.{same_cut}
@@ -101,7 +101,7 @@ good_bytes_read_2009 d r e =
 
 -- At writing: the checks of a name lent, and those beside them.
 written : (len room : ℕ) (name : List ℕ) (rest : List Numbered) → Every (Tells 23 name) rest → (r : Refusal) →
-    packed_of (room_check len room ∷ (written_name_checks name ++ rest)) len ≡ packed.Refused r → Tells 23 name r
+    packed_of (room_check len room ∷ (written_name_checks name ++ rest)) len ≡ Err r → Tells 23 name r
 written len room name rest rests r e =
     let names =
     every_written (Tells 23 name) name (λ q. absurd (omega (arith, q))) (λ q. absurd (omega (arith, q))) (λ n few g q. g) in
@@ -109,13 +109,13 @@ written len room name rest rests r e =
     (each_write (Tells 23 name) len room name rest (λ q. absurd (omega (arith, q))) names rests) e
 
 pub good_bytes_data : (room : ℕ) (name values : List ℕ) (r : Refusal) →
-    packed_of (data_write_checks room name values) (data_length values) ≡ packed.Refused r → r.number ≡ 23 → GoodBytes name r.value
+    packed_of (data_write_checks room name values) (data_length values) ≡ Err r → r.number ≡ 23 → GoodBytes name r.value
 good_bytes_data room name values r e =
     let rest = values_check (length values) ∷ count_check 513 (length values) ∷ [] in
     written (data_length values) room name rest (others 23 name rest refl) r e
 
 pub good_bytes_discovery : (room : ℕ) (name us : List ℕ) (r : Refusal) →
-    packed_of (discovery_write_checks room name us) (discovery_length us) ≡ packed.Refused r → r.number ≡ 23 → GoodBytes name r.value
+    packed_of (discovery_write_checks room name us) (discovery_length us) ≡ Err r → r.number ≡ 23 → GoodBytes name r.value
 good_bytes_discovery room name us r e =
     let counted = count_check 512 (length us) ∷ [] in
     let order = every_pairs rises (Tells 23 name) us (λ u i. others 23 name (rises u (get_or us i 0)) refl) in

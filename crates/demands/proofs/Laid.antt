@@ -1,5 +1,6 @@
 -- Written packets in document 01's byte layout: after an accepted write each field stands at its place, and the fields are the whole packet.
 -- Assumes nothing.
+use Rattle.std.specs.Prelude.{Ok, Err}
 use Prim.Native.Nat.{ℕ, ◌+◌, ◌-◌, ◌*◌, ◌≤◌, ◌<◌}
 use mathlib.Core.Bool.{Bool, true, false}
 use mathlib.Core.Path.{◌≡◌, refl, sym, ap, ◌∙◌}
@@ -22,7 +23,6 @@ use Rattle.framing.specs.declared.DataFields.{DataFields}
 use Rattle.extended.specs.Bytes.{synchronization_framing_bytes, discovery_framing_bytes}
 use Rattle.extended.specs.declared.synchronization.SynchronizationFields.{SynchronizationFields}
 use Rattle.pack.specs.Writing.{data_bytes, synchronization_bytes, discovery_bytes, data_length, synchronization_length, discovery_length, data_write_checks, synchronization_write_checks, discovery_write_checks, packed_of, after_pack}
-use Rattle.pack.specs.declared.Packed.TheVariants.{Length, Refused}
 use Rattle.demands.specs.Layout.{Field, Laid, Gapless, named, options, data_layout, synchronization_layout, discovery_layout}
 
 -- fields without a gap stand at their places in what they are joined to, whatever is before and behind
@@ -44,10 +44,10 @@ laid_first : (fs : List Field) (n : ℕ) (packet rest : List ℕ) → packet ≡
 laid_first fs n packet rest e g = rw e (laid fs 0 n [] rest refl g)
 
 -- an accepted write: its checks hold, and its answer is the packet's length
-pub wrote : (cs : List Numbered) (len n : ℕ) → packed_of cs len ≡ Length n → All cs × (len ≡ n)
+pub wrote : (cs : List Numbered) (len n : ℕ) → packed_of cs len ≡ Ok n → All cs × (len ≡ n)
 unfolding packed_of
 wrote cs len n e =
-    let f = found Refused cs (Length len) (Length n) (λ r q. let z : ◌≡◌ {A = ℕ} 0 1 = cc in omega arith) e in
+    let f = found Err cs (Ok len) (Ok n) (λ r q. let z : ◌≡◌ {A = ℕ} 0 1 = cc in omega arith) e in
     let same : len ≡ n = cc in
     (f.0, same)
 
@@ -115,9 +115,9 @@ module _ (cid : List ℕ) where
 -- An accepted write leaves the packet in the buffer's front: its length is document 01's, each field stands at its place, and the fields
 -- follow one another from byte 0 to the packet's end.
 module _ (cid : List ℕ) (sixteen : length cid ≡ 16) (buf : List ℕ) (n : ℕ) where
-  pub data_laid : (f : DataFields) (name values : List ℕ) → packed_of (data_write_checks (length buf) name values) (data_length values) ≡ Length n →
+  pub data_laid : (f : DataFields) (name values : List ℕ) → packed_of (data_write_checks (length buf) name values) (data_length values) ≡ Ok n →
       (n ≡ 125 + length values) × (126 ≤ n) × (n ≤ 638) × Gapless 0 (data_layout cid f name values) n
-      × Laid (data_layout cid f name values) (after_pack (Length n) (data_bytes cid f name values) buf)
+      × Laid (data_layout cid f name values) (after_pack (Ok n) (data_bytes cid f name values) buf)
   data_laid f name values e =
       let w = wrote (data_write_checks (length buf) name values) (data_length values) n e in
       let short : length name ≤ 63 = omega arith in
@@ -131,18 +131,18 @@ module _ (cid : List ℕ) (sixteen : length cid ≡ 16) (buf : List ℕ) (n : �
         laid_first (data_layout cid f name values) n (data_bytes cid f name values) (drop n buf) j g,
       )
 
-  pub synchronization_laid : (f : SynchronizationFields) → packed_of (synchronization_write_checks (length buf)) synchronization_length ≡ Length n →
+  pub synchronization_laid : (f : SynchronizationFields) → packed_of (synchronization_write_checks (length buf)) synchronization_length ≡ Ok n →
       (n ≡ 49) × Gapless 0 (synchronization_layout cid f) n
-      × Laid (synchronization_layout cid f) (after_pack (Length n) (synchronization_bytes cid f) buf)
+      × Laid (synchronization_layout cid f) (after_pack (Ok n) (synchronization_bytes cid f) buf)
   synchronization_laid f e =
       let w = wrote (synchronization_write_checks (length buf)) synchronization_length n e in
       let g : Gapless 0 (synchronization_layout cid f) n = rw (← w.1) (synchronization_gapless cid f sixteen) in
       let j = synchronization_joined cid f in
       (sym w.1, g, laid_first (synchronization_layout cid f) n (synchronization_bytes cid f) (drop n buf) j g)
 
-  pub discovery_laid : (f : DiscoveryFields) (name us : List ℕ) → packed_of (discovery_write_checks (length buf) name us) (discovery_length us) ≡ Length n →
+  pub discovery_laid : (f : DiscoveryFields) (name us : List ℕ) → packed_of (discovery_write_checks (length buf) name us) (discovery_length us) ≡ Ok n →
       (n ≡ 120 + 2 * length us) × (n ≤ 1144) × Gapless 0 (discovery_layout cid f name us) n
-      × Laid (discovery_layout cid f name us) (after_pack (Length n) (discovery_bytes cid f name us) buf)
+      × Laid (discovery_layout cid f name us) (after_pack (Ok n) (discovery_bytes cid f name us) buf)
   discovery_laid f name us e =
       let w = wrote (discovery_write_checks (length buf) name us) (discovery_length us) n e in
       let short : length name ≤ 63 = omega arith in

@@ -1,5 +1,6 @@
 -- Names that are not UTF-8, through the definition of each call that tells it: 7 and 23 do occur, and with these values. By computation; assumes
 -- nothing.
+use Rattle.std.specs.Prelude.{Err}
 use Prim.Native.Nat.{ℕ}
 use mathlib.Core.Path.{◌≡◌, refl}
 use mathlib.Core.Bool.{false}
@@ -22,7 +23,6 @@ use Rattle.packet.specs.declared.Packet.TheVariants.{Refused}
 use Rattle.edition2009.specs.Packet.{packet2009_of, reading2009_of}
 use Rattle.edition2009.specs.declared.Packet2009.TheVariants as old
 use Rattle.pack.specs.Writing.{data_bytes, discovery_bytes, data_length, discovery_length, data_write_checks, discovery_write_checks, packed_of}
-use Rattle.pack.specs.declared.Packed.TheVariants as packed
 
 -- packets with each name, which no writer would write
 abbrev pub cid : List ℕ
@@ -71,12 +71,12 @@ discovery_read = refl
 -- each into a buffer with room for it
 pub data_written :
     map (λ (b : Bad). packed_of (data_write_checks 638 b.name values) (data_length values)) vectors
-    ≡ map (λ (b : Bad). packed.Refused (refusal 23 nowhere b.good)) vectors
+    ≡ map (λ (b : Bad). Err (refusal 23 nowhere b.good)) vectors
 unfolding packed_of reading choose zero_at whole_chars reach lead_of trailed
 data_written = refl
 
 pub discovery_written :
     map (λ (b : Bad). packed_of (discovery_write_checks 638 b.name universes) (discovery_length universes)) vectors
-    ≡ map (λ (b : Bad). packed.Refused (refusal 23 nowhere b.good)) vectors
+    ≡ map (λ (b : Bad). Err (refusal 23 nowhere b.good)) vectors
 unfolding packed_of reading choose zero_at whole_chars reach lead_of trailed
 discovery_written = refl

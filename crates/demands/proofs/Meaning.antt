@@ -15,7 +15,7 @@ use Rattle.parts.specs.Parts.{shown_at, listed_at}
 use Rattle.demands.specs.Content.{synchronization_content, discovery_content, content_of, meaning}
 
 -- a reading with its CID
-abbrev pub read_as : List ℕ → Packet → Reading
+abbrev pub read_as : List ℕ → Packet → Reading Packet
 read_as cid x = record { cid = cid; packet = x }
 
 module _ (d cid : List ℕ) where

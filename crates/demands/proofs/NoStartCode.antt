@@ -1,5 +1,6 @@
 -- Demand 2, since request 07: what 17 and 27 moved. Without them each answer is the same, but where a data packet has no values; and there the packet
 -- is refused. Assumes nothing.
+use Rattle.std.specs.Prelude.{Ok, Err}
 use Prim.Native.Nat.{ℕ}
 use mathlib.Core.Path.{◌≡◌, refl, sym, ap, subst, ◌∙◌}
 use mathlib.Core.Bool.{Bool, true, false}
@@ -33,17 +34,17 @@ use Rattle.extended.specs.Extended.{kind_checks, extended_checks}
 use Rattle.root.specs.Root.{preamble_checks, root_checks, root_part}
 use Rattle.packet.specs.Packet.{span, root_vector, framing_part, framing_checks, packet_checks, record_of, data_record, extended_record, packet_of, reading_of}
 use Rattle.packet.specs.declared.DataRecord.{DataRecord}
+use Rattle.framing.specs.declared.DataFields.{DataFields}
 use Rattle.packet.specs.declared.Packet.{Packet}
 use Rattle.packet.specs.declared.Packet.TheVariants as packet
 use Rattle.packet.proofs.Whole.{each_extended, read}
 use Rattle.edition2009.specs.Editions.{dropped_fields}
 use Rattle.edition2009.specs.Packet.{packet_checks2009, data_record2009, packet2009_of, reading2009_of}
-use Rattle.edition2009.specs.declared.DataRecord2009.{DataRecord2009}
+use Rattle.edition2009.specs.declared.DataFields2009.{DataFields2009}
 use Rattle.edition2009.specs.declared.Packet2009.{Packet2009}
 use Rattle.edition2009.specs.declared.Packet2009.TheVariants as old
 use Rattle.edition2009.proofs.Editions.{read_2009}
 use Rattle.pack.specs.Writing.{room_check, values_check, count_check, data_bytes, data_length, data_write_checks, packed_of}
-use Rattle.pack.specs.declared.Packed.TheVariants as packed
 use Rattle.demands.specs.NoStartCode.{without, packet_without17, packet2009_without17, packed_without27, ReadsBut17, Reads2009But17, WritesBut27}
 use Rattle.demands.specs.Spans.{SpansIn}
 use Rattle.demands.proofs.Spans.{spans, data_spans_2009}
@@ -191,7 +192,7 @@ module _ (d : List ℕ) where
       (but_for 17 old.Refused NoCount2009 (old.Data (data_record2009 p)) (packet_checks2009 d) packet_alone_2009)
 
   -- Whatever is read without values there is refused: what is read here has at least one.
-  pub no_values_refused : (x : DataRecord) → packet_without17 d ≡ packet.Data x → x.values.len ≡ 0 → packet_of d ≡ packet.Refused (refusal 17 dmp 0)
+  pub no_values_refused : (x : DataRecord DataFields) → packet_without17 d ≡ packet.Data x → x.values.len ≡ 0 → packet_of d ≡ packet.Refused (refusal 17 dmp 0)
   no_values_refused x e none =
       ⊎_elim
       (λ same.
@@ -199,7 +200,7 @@ module _ (d : List ℕ) where
       absurd (omega (arith, none, here.2)))
       (λ w. w.0) reading_but_17
 
-  pub no_values_refused_2009 : (x : DataRecord2009) → packet2009_without17 d ≡ old.Data x → x.values.len ≡ 0 → packet2009_of d ≡ old.Refused (refusal 17 dmp 0)
+  pub no_values_refused_2009 : (x : DataRecord DataFields2009) → packet2009_without17 d ≡ old.Data x → x.values.len ≡ 0 → packet2009_of d ≡ old.Refused (refusal 17 dmp 0)
   no_values_refused_2009 x e none =
       ⊎_elim
       (λ same.
@@ -228,12 +229,12 @@ module _ (room : ℕ) (name values : List ℕ) where
   unfolding packed_of packed_without27
   writing_but_27 =
       ⊎_elim (λ same. inl same)
-      (λ w. inr (w.2 ∙ ap packed.Refused w.1.0, w.3 ∙ ap packed.Length (omega (arith, w.1.1)), w.1.1))
-      (but_for 27 packed.Refused NoneLent (packed.Length (data_length values)) (data_write_checks room name values) write_alone)
+      (λ w. inr (w.2 ∙ ap Err w.1.0, w.3 ∙ ap Ok (omega (arith, w.1.1)), w.1.1))
+      (but_for 27 Err NoneLent (Ok (data_length values)) (data_write_checks room name values) write_alone)
 
   -- Whatever is written without values there is refused here: an accepted write was lent one.
-  pub no_values_unwritten : (n : ℕ) → packed_without27 room name values ≡ packed.Length n → length values ≡ 0 →
-      packed_of (data_write_checks room name values) (data_length values) ≡ packed.Refused (refusal 27 nowhere 0)
+  pub no_values_unwritten : (n : ℕ) → packed_without27 room name values ≡ Ok n → length values ≡ 0 →
+      packed_of (data_write_checks room name values) (data_length values) ≡ Err (refusal 27 nowhere 0)
   no_values_unwritten n e none =
       ⊎_elim
       (λ same.
@@ -275,11 +276,11 @@ pub write_examples :
     ∷ packed_of (data_write_checks 125 (0xff ∷ []) []) (data_length [])
     ∷ packed_of (data_write_checks 126 [] (0 ∷ [])) (data_length (0 ∷ []))
     ∷ []
-    ≡ packed.Length 125
-    ∷ packed.Refused (refusal 20 nowhere 0)
-    ∷ packed.Refused (refusal 27 nowhere 0)
-    ∷ packed.Refused (refusal 23 nowhere 0)
-    ∷ packed.Length 126
+    ≡ Ok 125
+    ∷ Err (refusal 20 nowhere 0)
+    ∷ Err (refusal 27 nowhere 0)
+    ∷ Err (refusal 23 nowhere 0)
+    ∷ Ok 126
     ∷ []
 unfolding packed_without27 packed_of reading choose zero_at whole_chars reach lead_of trailed
 write_examples = refl

@@ -12,14 +12,15 @@ use Rattle.wire.specs.Fields.{u16_at, u32_at, be16, be32, join}
 use Rattle.wire.proofs.Laws.{u16_drop}
 use Rattle.refusal.specs.Check.{◌=?◌, ◌or◌}
 use Rattle.refusal.proofs.Tests.{Holds, chosen, passed_over, decide}
-use Rattle.refusal.proofs.Laws.{All, all_hold}
+use Rattle.refusal.proofs.Laws.{All, all_hold, after}
 use Rattle.pdu.specs.Head.{flags_of, length_of, flags_and_length, flags_field}
 use Rattle.pdu.specs.declared.Edition.TheVariants.{E2018}
-use Rattle.root.specs.Root.{preamble_checks, root_checks, root_part, root_of}
-use Rattle.root.specs.declared.Root.TheVariants as layer
+use Rattle.root.specs.Root.{preamble_checks, root_checks, root_part, found_in, root_of}
+use Rattle.std.specs.Prelude.{Ok, Err}
 use Rattle.root.proofs.Laws.{within}
 use Rattle.packet.specs.Packet.{root_vector, framing_part, cid_of, packet_of, data_packet_of, extended_packet_of}
-use Rattle.packet.proofs.Laws.{after_root, by_root}
+use Rattle.packet.specs.declared.Packet.TheVariants.{Refused}
+use Rattle.packet.proofs.Laws.{framed, by_root}
 use Rattle.pack.specs.Writing.{root_head}
 use Rattle.demands.proofs.Segments.{cuts, join_cuts, field16, field32, u32_drop, flags_back}
 
@@ -33,11 +34,11 @@ rooted len vec cid tail = root_head len vec ++ (cid ++ tail)
 
 -- the answer by what the root layer holds: the list is a variable, so that nothing computes
 module _ (d : List ℕ) (h : Rooted d) where
-  by_layer : packet_of d ≡ after_root d (layer.Layer (root_vector d) (length_of (root_part d)))
+  by_layer : packet_of d ≡ framed d (found_in (root_part d))
   unfolding root_of
   by_layer =
-      let found = layer.Layer (root_vector d) (length_of (root_part d)) in
-      by_root d ∙ ap (after_root d) (all_hold layer.Refused (preamble_checks d ++ root_checks E2018 (root_part d)) found h)
+      let found = found_in (root_part d) in
+      by_root d ∙ ap (after Refused (framed d)) (all_hold Err (preamble_checks d ++ root_checks E2018 (root_part d)) (Ok found) h)
 
   pub data_by : root_vector d ≡ 4 → packet_of d ≡ data_packet_of (framing_part d)
   data_by v = by_layer ∙ sym (chosen (root_vector d =? 4) _ _ v refl)

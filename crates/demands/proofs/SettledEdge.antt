@@ -37,11 +37,8 @@ flatten = settled (λ k a r e p. p)
 pub flatten_2009 : Settled CAnswers.flatten_2009.Reads.Learnt
 flatten_2009 = settled (λ k a r e p. p)
 
-pub packed_outcome : Settled CAnswers.packed_outcome.Reads.Learnt
-packed_outcome = settled (λ k a r e p. p)
-
-pub copied_outcome : Settled CAnswers.copied_outcome.Reads.Learnt
-copied_outcome = settled (λ k a r e p. p)
+pub outcome_of : Settled CAnswers.outcome_of.Reads.Learnt
+outcome_of = settled (λ k a r e p. p)
 
 pub refusal_of : Settled CAnswers.refusal_of.Reads.Learnt
 refusal_of = settled (λ k a r e p. p)

@@ -26,8 +26,8 @@ full = settled (λ k a r e p. p)
 pub unseen : Settled FollowRules.unseen.Reads.Learnt
 unseen = settled (λ k a r e p. p)
 
-pub looks : Settled FollowRules.looks.Reads.Learnt
-looks = settled (λ k a r e p. p)
+pub seeks : Settled FollowRules.seeks.Reads.Learnt
+seeks = settled (λ k a r e p. p)
 
 pub look : Settled FollowRules.look.Reads.Learnt
 look = settled (λ k a r e p. p)

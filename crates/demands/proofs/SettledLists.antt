@@ -3,7 +3,7 @@
 use Rattle.cid.proofs as Cid
 use Rattle.universe_pages.proofs as UniversePages
 use Rattle.page_collector.proofs as PageCollector
-use Rattle.page_collector.specs.Collect.{after}
+use Rattle.page_collector.specs.Collect.{after, collected_of}
 use Rattle.demands.proofs.Contracts.{Settled, settled, SettledAs, settled_as, SettledWith, settled_with}
 
 -- cid
@@ -18,5 +18,5 @@ pack_page = settled_with (λ k a r e p. p)
 pub new : Settled PageCollector.Collector.new.Reads.Learnt
 new = settled (λ k a r e p. p)
 
-pub collect : SettledAs PageCollector.collect.Reads.Learnt (λ k r e. after e.1.1.0.now e.1.1.1.0.now r)
+pub collect : SettledAs PageCollector.Collector.collect.Reads.Learnt (λ k r e. after e.1.1.0.now e.1.1.1.0.now (collected_of e.0.now r))
 collect = settled_as (λ k a r e p. p)

@@ -19,28 +19,29 @@ use Rattle.capture_input.proofs.Once.{Same, took_once}
 use Rattle.capture_input.specs.Entries.{unread_in}
 use Rattle.turns.proofs as Turns
 use Rattle.turns.specs.Turn.{over}
+use Rattle.demands.proofs.SettledText.{seen}
 use Rattle.demands.proofs.Contracts.{Settled, settled, SettledIf}
 
 -- standard_io
-pub nothing_heard : Settled StandardIo.nothing_heard.Reads.Learnt
+pub nothing_heard : Settled StandardIo.Heard.nothing.Reads.Learnt
 nothing_heard = settled (λ k a r e p. p)
 
-pub quiet : Settled StandardIo.quiet.Reads.Learnt
+pub quiet : Settled StandardIo.Heard.quiet.Reads.Learnt
 quiet = settled (λ k a r e p. p)
 
-pub reached : Settled StandardIo.reached.Reads.Learnt
+pub reached : Settled StandardIo.Heard.reached.Reads.Learnt
 reached = settled (λ k a r e p. p)
 
-pub failed : Settled StandardIo.failed.Reads.Learnt
+pub failed : Settled StandardIo.Heard.failed.Reads.Learnt
 failed = settled (λ k a r e p. p)
 
-pub nothing_written : Settled StandardIo.nothing_written.Reads.Learnt
+pub nothing_written : Settled StandardIo.Wrote.nothing.Reads.Learnt
 nothing_written = settled (λ k a r e p. p)
 
-pub kept : Settled StandardIo.kept.Reads.Learnt
+pub kept : Settled StandardIo.Wrote.kept.Reads.Learnt
 kept = settled (λ k a r e p. p)
 
-pub took_all : Settled StandardIo.took_all.Reads.Learnt
+pub took_all : Settled StandardIo.Wrote.took_all.Reads.Learnt
 took_all = settled (λ k a r e p. p)
 
 -- as much text was handed to the system, and it took all of both or not all of either
@@ -52,64 +53,66 @@ same_write v w t b i = record { all = b i; total = t i }
 same_heard : (h g : Heard) → h.total ≡ g.total → h.said ≡ g.said → h ≡ g
 same_heard h g t s i = record { said = s i; total = t i }
 
+pub nothing_read : Settled CaptureInput.Unread.nothing.Reads.Learnt
+nothing_read = settled (λ k a r e p. p)
+
 -- turns
-pub begin : Settled Turns.begin.Reads.Learnt
+pub begin : Settled Turns.State.begin.Reads.Learnt
 begin = settled (λ k a r e p. p)
 
 -- The calls that read, for every runtime that they may be handed.
 module _ (T1 T2 : RattleType) (L1 : Laws T1) (L2 : Laws T2) (G1 : Input.Ghosts T1.Denot T2.Denot) (d1 : Dict) (G2 : BufRead.Ghosts T2.Denot) (d2 : Dict)
     (G3 : Read.Ghosts T2.Denot) (d3 d4 : Dict) where
   -- which bytes stand in the block behind those that were there is the system's
-  pub read_more : SettledIf (StandardIo.read_more.Reads.Learnt T1 T2 L1 L2 G1 d1 G2 d2 G3 d3 d4) (λ k a r s e f p q. r.said ≡ s.said) (λ k r s e f. r ≡ s)
-  read_more k a r s e f p q same = p.1.1 ∙ ap (λ (x : Said). heard_after a.1.1.1.0 x a.1.1.0) same ∙ sym q.1.1
+  pub read_more : SettledIf (StandardIo.Heard.read_more.Reads.Learnt T1 T2 L1 L2 G1 d1 G2 d2 G3 d3 d4) (λ k a r s e f p q. r.said ≡ s.said) (λ k r s e f. r ≡ s)
+  read_more k a r s e f p q same = p.1.1 ∙ ap (λ (x : Said). heard_after a.0 x a.1.1.1.0) same ∙ sym q.1.1
 
   -- the same bytes arrived, and the system said the same of the last read: the same is found, put into the entry's buffer and left unread
-  pub next_entry : SettledIf (CaptureInput.next_entry.Reads.Learnt T1 T2 L1 L2 G1 d1 G2 d2 G3 d3 d4) (λ k a r s e f p q. (p.0 ≡ q.0) × (r.heard.said ≡ s.heard.said))
+  pub next_entry : SettledIf (CaptureInput.Unread.next_entry.Reads.Learnt T1 T2 L1 L2 G1 d1 G2 d2 G3 d3 d4)
+      (λ k a r s e f p q. (p.0 ≡ q.0) × (e.0.now.heard.said ≡ f.0.now.heard.said))
       (λ k r s e f.
-      Same r.next s.next (unread_in e.1.0.now r.unread) (unread_in f.1.0.now s.unread) e.1.1.0.now f.1.1.0.now
-      × (r.heard ≡ s.heard))
+      Same r s (unread_in e.1.1.0.now e.0.now) (unread_in f.1.1.0.now f.0.now) e.1.1.1.0.now f.1.1.1.0.now
+      × (e.0.now.heard ≡ f.0.now.heard))
   next_entry k a r s e f p q given = (
-    took_once _ _ s.heard.said r.next s.next _ _ _ _ (rw given.0 at p.1) q.1 (rw given.1 at p.3) q.3,
-    same_heard r.heard s.heard (rw given.0 at p.4 ∙ sym q.4) given.1,
+    took_once _ _ f.0.now.heard.said r s _ _ _ _ (rw given.0 at p.1) q.1 (rw given.1 at p.3) q.3,
+    same_heard e.0.now.heard f.0.now.heard (rw given.0 at p.4 ∙ sym q.4) given.1,
   )
 
   -- and nothing else of the state moves
-  pub take_next : SettledIf (Turns.take.Reads.Learnt T1 T2 L1 L2 G1 d1 G2 d2 G3 d3 d4) (λ k a r s e f p q. (p.0.0 ≡ q.0.0) × (r.state.heard.said ≡ s.state.heard.said))
+  pub take_next : SettledIf (Turns.State.take.Reads.Learnt T1 T2 L1 L2 G1 d1 G2 d2 G3 d3 d4)
+      (λ k a r s e f p q. (p.0.0 ≡ q.0.0) × (e.0.now.unread.heard.said ≡ f.0.now.unread.heard.said))
       (λ k r s e f.
-      Same r.next s.next (unread_in e.1.0.now r.state.unread) (unread_in f.1.0.now s.state.unread) e.1.1.0.now f.1.1.0.now
-      × (r.state.heard ≡ s.state.heard)
-      × (r.state.at ≡ s.state.at)
-      × (r.state.wrote ≡ s.state.wrote)
-      × (r.state.going ≡ s.state.going))
+      Same r s (unread_in e.1.1.0.now e.0.now.unread) (unread_in f.1.1.0.now f.0.now.unread) e.1.1.1.0.now f.1.1.1.0.now
+      × (e.0.now.unread.heard ≡ f.0.now.unread.heard)
+      × (e.0.now.wrote ≡ f.0.now.wrote)
+      × (e.0.now.going ≡ f.0.now.going))
   take_next k a r s e f p q given = (
-    took_once _ _ s.state.heard.said r.next s.next _ _ _ _ (rw given.0 at p.0.1) q.0.1 (rw given.1 at p.0.3) q.0.3,
-    same_heard r.state.heard s.state.heard (rw given.0 at p.0.4 ∙ sym q.0.4) given.1,
+    took_once _ _ f.0.now.unread.heard.said r s _ _ _ _ (rw given.0 at p.0.1) q.0.1 (rw given.1 at p.0.3) q.0.3,
+    same_heard e.0.now.unread.heard f.0.now.unread.heard (rw given.0 at p.0.4 ∙ sym q.0.4) given.1,
     p.1 ∙ sym q.1,
     p.2 ∙ sym q.2,
-    p.3 ∙ sym q.3,
   )
 
 -- The calls that write, likewise.
 module _ (T : RattleType) (L : Laws T) (G1 : Print.Ghosts T.Denot) (d1 : Dict) (G2 : Eprint.Ghosts T.Denot) (d2 : Dict) where
-  pub write : SettledIf (StandardIo.write.Reads.Learnt T L G1 d1 G2 d2) (λ k a r s e f p q. r.all ≡ s.all) (λ k r s e f. r ≡ s)
+  pub write : SettledIf (StandardIo.Wrote.write.Reads.Learnt T L G1 d1 G2 d2) (λ k a r s e f p q. r.all ≡ s.all) (λ k r s e f. r ≡ s)
   write k a r s e f p q same = same_write r s (p ∙ sym q) same
 
-  pub go_on : SettledIf (Turns.go_on.Reads.Learnt T L G1 d1 G2 d2) (λ k a r s e f p q. r.wrote.all ≡ s.wrote.all) (λ k r s e f. r ≡ s)
+  -- what is answered is the state and the text, which are lent
+  pub go_on : SettledIf (Turns.State.go_on.Reads.Learnt T L G1 d1 G2 d2) (λ k a r s e f p q. e.0.now.wrote.all ≡ f.0.now.wrote.all)
+      (λ k r s e f. (e.0.now ≡ f.0.now) × (seen e.1.1.0.now ≡ seen f.1.1.0.now))
   go_on k a r s e f p q same =
-      let wrote = same_write r.wrote s.wrote (p.handed ∙ sym q.handed) same in
-      λ i.
-      record {
-        unread = (p.unread ∙ sym q.unread) i;
-        at = (p.place ∙ sym q.place) i;
-        heard = (p.heard ∙ sym q.heard) i;
-        wrote = wrote i;
-        going = (p.goes ∙ same ∙ sym q.goes) i;
-      }
+      let wrote = same_write e.0.now.wrote f.0.now.wrote (p.handed ∙ sym q.handed) same in
+      let text = p.text ∙ sym q.text in (
+        λ i. record { unread = (p.unread ∙ sym q.unread) i; wrote = wrote i; going = (p.goes ∙ same ∙ sym q.goes) i },
+        λ i. ((p.place ∙ sym q.place) i, (text i).now),
+      )
 
-  pub finish : SettledIf (Turns.finish.Reads.Learnt T L G1 d1 G2 d2) (λ k a r s e f p q. r.wrote.all ≡ s.wrote.all) (λ k r s e f. (r ≡ s) × (e.1.0.now ≡ f.1.0.now))
+  pub finish : SettledIf (Turns.State.finish.Reads.Learnt T L G1 d1 G2 d2) (λ k a r s e f p q. e.0.now.wrote.all ≡ f.0.now.wrote.all)
+      (λ k r s e f. (e.0.now ≡ f.0.now) × (seen e.1.1.0.now ≡ seen f.1.1.0.now))
   finish k a r s e f p q same =
-      let wrote = same_write r.wrote s.wrote (p.handed ∙ sym q.handed) same in
-      (p.done ∙ ap (over _) wrote ∙ sym q.done, p.text ∙ sym q.text)
+      let wrote = same_write e.0.now.wrote f.0.now.wrote (p.handed ∙ sym q.handed) same in
+      (p.done ∙ ap (over _) wrote ∙ sym q.done, λ i. ((p.empty ∙ sym q.empty) i, (p.text ∙ sym q.text) i))
 
 -- a line on standard error: nothing is answered
 module _ (T : RattleType) (L : Laws T) (G : Eprint.Ghosts T.Denot) (d : Dict) where

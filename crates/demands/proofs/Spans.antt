@@ -40,7 +40,8 @@ use Rattle.packet.proofs.Whole.{read}
 use Rattle.parts.specs.Parts.{shown_at, universes_span, listed_at, universes_in}
 use Rattle.edition2009.specs.Packet.{packet_checks2009, data_record2009, packet2009_of, reading2009_of}
 use Rattle.edition2009.proofs.Editions.{read_2009}
-use Rattle.edition2009.specs.declared.DataRecord2009.{DataRecord2009}
+use Rattle.packet.specs.declared.DataRecord.{DataRecord}
+use Rattle.edition2009.specs.declared.DataFields2009.{DataFields2009}
 use Rattle.edition2009.specs.declared.Packet2009.TheVariants as old
 use Rattle.demands.specs.Spans.{packet_end, NameIn, PartIn, judged, ListIn, DataIn, SpansIn, SpansIn2009}
 use Rattle.demands.proofs.Segments.{cut_at}
@@ -288,7 +289,7 @@ pub spans_2009 : (d : List ℕ) → SpansIn2009 d (reading2009_of d).packet
 spans_2009 d = subst (SpansIn2009 d) (sym (read_2009 d)) (packet_in_2009 d)
 
 -- The same by the record that the 2009 reader read.
-pub data_spans_2009 : (d : List ℕ) (x : DataRecord2009) → (reading2009_of d).packet ≡ old.Data x → SpansIn2009 d (old.Data x)
+pub data_spans_2009 : (d : List ℕ) (x : DataRecord DataFields2009) → (reading2009_of d).packet ≡ old.Data x → SpansIn2009 d (old.Data x)
 data_spans_2009 d x e = subst (SpansIn2009 d) e (spans_2009 d)
 
 -- The universes that are copied out: as many as told, and those that check 12 judged.

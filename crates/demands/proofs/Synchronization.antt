@@ -1,4 +1,5 @@
 -- Synchronization packets: written and read again, ignored places, nothing else. Assumes nothing.
+use Rattle.std.specs.Prelude.{Ok, Err}
 use Prim.Native.Nat.{ℕ, ◌+◌, ◌*◌, ◌-◌, ◌/◌, ◌%◌, ◌≤◌}
 use mathlib.Core.Path.{◌≡◌, refl, sym, ap, ◌∙◌}
 use mathlib.Core.List.{List, [], ◌∷◌, ◌++◌, append-nil, append_assoc}
@@ -24,7 +25,6 @@ use Rattle.packet.specs.declared.Packet.TheVariants as packet
 use Rattle.packet.specs.Packet.{extended_record, extended_packet_of, reading_of, packet_of, cid_of, framing_part}
 use Rattle.pack.proofs.Writing.{synchronization_long}
 use Rattle.pack.specs.Writing.{synchronization_bytes, synchronization_length, synchronization_write_checks, packed_of, after_pack}
-use Rattle.pack.specs.declared.Packed.TheVariants.{Length, Refused}
 use Rattle.demands.specs.Limits.{ReadableSynchronization}
 use Rattle.demands.specs.Content.{synchronization_content, meaning}
 use Rattle.demands.specs.Ignored.{AlikeSynchronization}
@@ -128,14 +128,14 @@ module _ (cid : List ℕ) (f : SynchronizationFields) where
 -- reading the buffer as it is then returns that record.
 pub return_synchronization : (cid : List ℕ) (f : SynchronizationFields) (buf : List ℕ) → ReadableSynchronization cid f →
     synchronization_length ≤ length buf →
-    (packed_of (synchronization_write_checks (length buf)) synchronization_length ≡ Length synchronization_length)
-    × (meaning (after_pack (Length synchronization_length) (synchronization_bytes cid f) buf) ≡ synchronization_content cid f)
+    (packed_of (synchronization_write_checks (length buf)) synchronization_length ≡ Ok synchronization_length)
+    × (meaning (after_pack (Ok synchronization_length) (synchronization_bytes cid f) buf) ≡ synchronization_content cid f)
 unfolding packed_of
 return_synchronization cid f buf r room =
     let rest = drop synchronization_length buf in
     let is : synchronization_bytes cid f ++ rest ≡ with cid f (0 ∷ 0 ∷ []) rest =
     ap (λ (l : List ℕ). l ++ rest) (packet_with cid f) ∙ simp (append_assoc, append-nil) in (
-      all_hold Refused (synchronization_write_checks (length buf)) (Length synchronization_length) (room, tt),
+      all_hold Err (synchronization_write_checks (length buf)) (Ok synchronization_length) (room, tt),
       rw is (means (with cid f (0 ∷ 0 ∷ []) rest) cid (record_with f) (with_read cid f (0 ∷ 0 ∷ []) rest r refl)),
     )
 

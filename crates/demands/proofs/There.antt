@@ -35,7 +35,7 @@ use Rattle.root.specs.Root.{preamble_checks, root_part, root_checks, vector_chec
 use Rattle.packet.specs.Packet.{root_vector, framing_part}
 use Rattle.failed_check.specs.Tell.{checks_of, told_of, outer_checks, framed_checks}
 use Rattle.failed_check.specs.declared.Fault.{Fault}
-use Rattle.failed_check.specs.declared.Told.TheVariants.{Refused}
+use Rattle.std.specs.Prelude.{Some}
 use Rattle.failed_check.proofs.Bytes.{told_good}
 use Rattle.failed_check.proofs.Whole.{told_fails}
 use Rattle.demands.specs.There.{there}
@@ -241,7 +241,7 @@ module _ (d : List ℕ) where
 
 -- Whatever is told of a datagram, in either edition: the told value is the number of the field that stands at the told byte, or 0 where the reason
 -- has none; for a name at most 62; and a universe out of order is not above the one two bytes before it.
-pub what_is_there : (edition : Edition) (d : List ℕ) (f : Fault) → told_of edition d ≡ Refused f →
+pub what_is_there : (edition : Edition) (d : List ℕ) (f : Fault) → told_of edition d ≡ Some f →
     Holds (there f.check.reason d f.check.byte f.refusal.value)
 what_is_there edition d f e =
     let x = told_fails edition d f e in

@@ -19,10 +19,11 @@ use Rattle.packet.specs.Packet.{framing_part, cid_of}
 use Rattle.packet.specs.declared.Span.{Span}
 use Rattle.parts.specs.Parts.{shown_at}
 use Rattle.edition2009.specs.Packet.{data_record2009, packet2009_of, with_cid2009, reading2009_of}
-use Rattle.edition2009.specs.declared.DataRecord2009.{DataRecord2009}
+use Rattle.packet.specs.declared.DataRecord.{DataRecord}
+use Rattle.edition2009.specs.declared.DataFields2009.{DataFields2009}
 use Rattle.edition2009.specs.declared.Packet2009.{Packet2009}
 use Rattle.edition2009.specs.declared.Packet2009.TheVariants.{Data, Refused}
-use Rattle.edition2009.specs.declared.Reading2009.{Reading2009}
+use Rattle.packet.specs.declared.Reading.{Reading}
 use Rattle.demands.specs.Content2009.{content_with2009, meaning2009}
 use Rattle.demands.specs.Ignored.{Between}
 use Rattle.demands.specs.Unlooked.{AlikeTo2009}
@@ -139,7 +140,7 @@ module _ (d e : List ℕ) (a : Alike 0 d e) where
   unfolding packet2009_of
   packet_same =
       let f = framed_alike (framing_part d) (framing_part e) framing_alike in
-      ap₂ (λ (cs : List Check) (x : DataRecord2009). reading Refused cs (Data x)) (ap₂ (λ (cs ds : List Check). cs ++ ds) outer_same f.0) f.1
+      ap₂ (λ (cs : List Check) (x : DataRecord DataFields2009). reading Refused cs (Data x)) (ap₂ (λ (cs ds : List Check). cs ++ ds) outer_same f.0) f.1
 
   part_same : (start len : ℕ) → ((i : ℕ) → i < len → Between 109 112 (start + i) → ⊥) → take len (drop start d) ≡ take len (drop start e)
   part_same start len none =
@@ -187,4 +188,4 @@ module _ (d e : List ℕ) (a : AlikeTo2009 d e) where
   pub unlooked_meaning : meaning2009 d ≡ meaning2009 e
   unlooked_meaning =
       content_same d e alike (reading2009_of d).packet refl (reading2009_of d).cid
-      ∙ ap (λ (x : Reading2009). content_with2009 e x.cid x.packet) unlooked_reading
+      ∙ ap (λ (x : Reading Packet2009). content_with2009 e x.cid x.packet) unlooked_reading

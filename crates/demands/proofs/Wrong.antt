@@ -34,7 +34,7 @@ use Rattle.root.proofs.Laws.{within}
 use Rattle.packet.specs.Packet.{root_vector, framing_part}
 use Rattle.failed_check.specs.Tell.{checks_of, told_of, outer_checks, framed_checks}
 use Rattle.failed_check.specs.declared.Fault.{Fault}
-use Rattle.failed_check.specs.declared.Told.TheVariants.{Refused}
+use Rattle.std.specs.Prelude.{Some}
 use Rattle.failed_check.proofs.Bytes.{told_good}
 use Rattle.failed_check.proofs.Whole.{told_fails}
 use Rattle.finding_text.specs.Numbers.{length_at, room_at, head_at}
@@ -238,7 +238,7 @@ module _ (d : List ℕ) where
       (λ h. extended_wrong p (framing_stands d) room (field_at d) whole (length-drop 16 d)))
 
 -- Whatever fault is told of a datagram, in either edition: what its reason says is so of the datagram's own numbers.
-pub what_is_wrong : (edition : Edition) (d : List ℕ) (f : Fault) → told_of edition d ≡ Refused f →
+pub what_is_wrong : (edition : Edition) (d : List ℕ) (f : Fault) → told_of edition d ≡ Some f →
     Holds (wrong f.check.reason d f.refusal.place f.check.byte f.refusal.value)
 what_is_wrong edition d f e =
     let x = told_fails edition d f e in

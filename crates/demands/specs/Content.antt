@@ -24,7 +24,7 @@ content_with d cid (packet.Synchronization x) = synchronization_content cid x.fi
 content_with d cid (packet.Discovery x) = discovery_content cid x.fields (shown_at d x.name) (listed_at d x.universes)
 content_with d cid (packet.Refused r) = refused_content r
 
-abbrev pub content_of : List ℕ → Reading → Content
+abbrev pub content_of : List ℕ → Reading Packet → Content
 content_of d r = content_with d r.cid r.packet
 
 -- what the present reader takes a datagram for

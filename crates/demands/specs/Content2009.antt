@@ -4,7 +4,7 @@ use Rattle.refusal.specs.declared.Refusal.{Refusal}
 use Rattle.parts.specs.Parts.{shown_at}
 use Rattle.refusal.specs.Check.{refusal, root}
 use Rattle.edition2009.specs.Packet.{reading2009_of, with_cid2009}
-use Rattle.edition2009.specs.declared.Reading2009.{Reading2009}
+use Rattle.packet.specs.declared.Reading.{Reading}
 use Rattle.edition2009.specs.declared.DataFields2009.{DataFields2009}
 use Rattle.edition2009.specs.declared.Packet2009.{Packet2009}
 use Rattle.edition2009.specs.declared.Packet2009.TheVariants as packet
@@ -22,5 +22,5 @@ abbrev pub meaning2009 : List ℕ → Content2009
 meaning2009 d = content_with2009 d (reading2009_of d).cid (reading2009_of d).packet
 
 -- how it refuses a packet that is no data packet: by the root vector
-abbrev pub refused_by_vector : List ℕ → Reading2009
+abbrev pub refused_by_vector : List ℕ → Reading Packet2009
 refused_by_vector d = with_cid2009 d (packet.Refused (refusal 4 root 8))

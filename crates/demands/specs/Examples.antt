@@ -1,19 +1,16 @@
 -- Document 01's examples at the edges, (a) to (k), each with what is expected.
-use Rattle.std.specs.Prelude.{ℕ, Bool, true, false, List, [], ◌∷◌, ◌++◌, length, set, replicate}
-use Rattle.refusal.specs.Check.{refusal, nowhere, preamble, root, framing, outcome, checked_of}
-use Rattle.refusal.specs.declared.Checked.{Checked}
-use Rattle.refusal.specs.declared.Checked.TheVariants as checked
+use Rattle.std.specs.Prelude.{ℕ, Bool, true, false, List, [], ◌∷◌, ◌++◌, length, set, replicate, Result, Ok, Err}
+use Rattle.refusal.specs.declared.Refusal.{Refusal}
+use Rattle.universe.specs.declared.Ipv4Address.{Ipv4Address}
+use Rattle.refusal.specs.Check.{refusal, nowhere, preamble, root, framing, outcome, checked_of, Checked}
 use Rattle.universe.specs.Universe.{universe_checks, multicast_of}
-use Rattle.universe.specs.declared.Multicast.{Multicast}
-use Rattle.universe.specs.declared.Multicast.TheVariants as multicast
 use Rattle.name.specs.Utf8.{well_formed}
 use Rattle.discovery.specs.declared.DiscoveryFields.{DiscoveryFields}
 use Rattle.packet.specs.Packet.{reading_of}
 use Rattle.packet.specs.declared.Packet.TheVariants as packet
 use Rattle.packet.specs.declared.Reading.{Reading}
+use Rattle.packet.specs.declared.Packet.{Packet}
 use Rattle.pack.specs.Writing.{discovery_bytes, discovery_length, discovery_write_checks, packed_of, after_pack}
-use Rattle.pack.specs.declared.Packed.{Packed}
-use Rattle.pack.specs.declared.Packed.TheVariants as packed
 
 -- a datagram to read, a universe whose range and address are asked, bytes that may be UTF-8, universes to write as a discovery packet
 pub data Question : Type 0 where
@@ -23,10 +20,10 @@ pub data Question : Type 0 where
   write : List ℕ → Question
 
 pub data Answer : Type 0 where
-  is : Reading → Answer
-  at : Checked → Multicast → Answer
+  is : Reading Packet → Answer
+  at : Checked → Result Ipv4Address Refusal → Answer
   formed : Bool → Answer
-  left : Packed → List ℕ → Answer
+  left : Result ℕ Refusal → List ℕ → Answer
 
 -- what the universes are written with: a buffer that holds two of them and no more, a CID, a name, a single page
 unfoldable pub buffer : List ℕ
@@ -39,7 +36,7 @@ abbrev pub single : DiscoveryFields
 single = record { page = 0; last_page = 0 }
 
 -- the writer's answer, and the buffer afterwards
-abbrev pub writes : List ℕ → Packed → Answer
+abbrev pub writes : List ℕ → Result ℕ Refusal → Answer
 writes us p = left p (after_pack p (discovery_bytes (replicate 16 0x11) single title us) buffer)
 
 unfoldable pub answer : Question → Answer
@@ -60,14 +57,14 @@ abbrev pub refused : ℕ → ℕ → ℕ → Answer
 refused n place value = is (record { cid = replicate 16 0; packet = packet.Refused (refusal n place value) })
 
 abbrev pub reached : ℕ → ℕ → Answer
-reached high low = at checked.Passed (multicast.Address (record { highest = 239; second = 255; third = high; lowest = low; port = 5568 }))
+reached high low = at (Ok tt) (Ok (record { highest = 239; second = 255; third = high; lowest = low; port = 5568 }))
 
 abbrev pub unreached : ℕ → Answer
-unreached u = at (checked.Refused (refusal 30 nowhere u)) (multicast.Refused (refusal 30 nowhere u))
+unreached u = at (Err (refusal 30 nowhere u)) (Err (refusal 30 nowhere u))
 
 -- a refused write: the buffer as found
 abbrev pub unwritten : ℕ → Answer
-unwritten n = left (packed.Refused (refusal n nowhere 0)) buffer
+unwritten n = left (Err (refusal n nowhere 0)) buffer
 
 pub record Example : Type 0 where
   pub question : Question

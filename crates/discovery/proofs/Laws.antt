@@ -13,7 +13,7 @@ use Rattle.wire.specs.Bytes.{Bytes, Words}
 use Rattle.wire.proofs.Laws.{u16_drop, drop_more, sets_append}
 use Rattle.wire.proofs.Bytes.{bytes_drop, u16_small}
 use Rattle.refusal.specs.Check.{Numbered, ◌≤?◌, reading, checked_of}
-use Rattle.refusal.specs.declared.Checked.TheVariants.{Passed, Refused}
+use Rattle.std.specs.Prelude.{Ok, Err}
 use Rattle.refusal.specs.declared.Refusal.{Refusal}
 use Rattle.refusal.proofs.Tests.{decided}
 use Rattle.refusal.proofs.Laws.{All, Stops, refusal_at, Every, all_hold, first_fails, reading_++, every_++}
@@ -60,20 +60,20 @@ module _ (f : ℕ → ℕ → List Numbered) where
   module _ (us : List ℕ) (u i : ℕ) where
     pairs_more : i < length us →
         checked_of (pairs_from f u (drop i us))
-        ≡ reading Refused (f u (get_or us i 0)) (checked_of (pairs_from f (get_or us i 0) (drop (i + 1) us)))
+        ≡ reading Err (f u (get_or us i 0)) (checked_of (pairs_from f (get_or us i 0) (drop (i + 1) us)))
     unfolding checked_of
-    pairs_more h = rw (drop_more us i h) (reading_++ Refused (f u (get_or us i 0)) (pairs_from f (get_or us i 0) (drop (i + 1) us)) Passed)
+    pairs_more h = rw (drop_more us i h) (reading_++ Err (f u (get_or us i 0)) (pairs_from f (get_or us i 0) (drop (i + 1) us)) (Ok tt))
 
     -- two neighbours whose checks hold; two of which check k fails; no more neighbours
     pub pair_holds : i < length us → All (f u (get_or us i 0)) →
         checked_of (pairs_from f u (drop i us)) ≡ checked_of (pairs_from f (get_or us i 0) (drop (i + 1) us))
-    pair_holds h a = pairs_more h ∙ all_hold Refused (f u (get_or us i 0)) _ a
+    pair_holds h a = pairs_more h ∙ all_hold Err (f u (get_or us i 0)) _ a
 
     pub pair_fails : (k : ℕ) → i < length us → Stops k (f u (get_or us i 0)) →
-        checked_of (pairs_from f u (drop i us)) ≡ Refused (refusal_at k (f u (get_or us i 0)))
-    pair_fails k h s = pairs_more h ∙ first_fails Refused k (f u (get_or us i 0)) _ s
+        checked_of (pairs_from f u (drop i us)) ≡ Err (refusal_at k (f u (get_or us i 0)))
+    pair_fails k h s = pairs_more h ∙ first_fails Err k (f u (get_or us i 0)) _ s
 
-    pub pairs_end : length us ≤ i → checked_of (pairs_from f u (drop i us)) ≡ Passed
+    pub pairs_end : length us ≤ i → checked_of (pairs_from f u (drop i us)) ≡ (Ok tt)
     unfolding checked_of reading
     pairs_end h = rw (drop_of_length-le us h)
 
@@ -106,7 +106,7 @@ every_told P i (c ∷ cs) h = (h.0, λ t. every_told P (i + 2) cs (h.1 t))
 -- A list whose part holds it is refused by its order alone.
 pub listed : (p : List ℕ) (n : ℕ) → 2 * n ≤ length p → checked_of (list_checks p n) ≡ checked_of (pairs ascends (universes n p))
 unfolding checked_of reading
-listed p n h = rw (decided (2 * n ≤? length p) true h) (told_reading Refused 2 (pairs ascends (universes n p)) Passed)
+listed p n h = rw (decided (2 * n ≤? length p) true h) (told_reading Err 2 (pairs ascends (universes n p)) (Ok tt))
 
 -- The bytes of universes.
 bytes_++ : (us vs : List ℕ) → universe_bytes (us ++ vs) ≡ universe_bytes us ++ universe_bytes vs

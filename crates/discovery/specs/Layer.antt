@@ -1,15 +1,15 @@
 -- The universe discovery layer. Offsets count from the layer's first byte, in its part p.
-use Rattle.std.specs.Prelude.{ℕ, ◌+◌, ◌-◌, ◌*◌, ◌/◌, List, [], ◌∷◌, ◌++◌, length, drop}
+use Rattle.std.specs.Prelude.{ℕ, ◌+◌, ◌-◌, ◌*◌, ◌/◌, List, [], ◌∷◌, ◌++◌, length, drop, Result, Ok, Err}
 use Rattle.wire.specs.Fields.{byte_at, be32, join}
 use Rattle.refusal.specs.Check.{Check, check, refusal, discovery, ◌≤?◌, ◌=?◌, ◌and◌, reading}
+use Rattle.refusal.specs.declared.Refusal.{Refusal}
 use Rattle.refusal.specs.declared.Reason.TheVariants as why
 use Rattle.refusal.specs.declared.LengthIn.TheVariants as length-in
 use Rattle.refusal.specs.declared.VectorIn.TheVariants as vector-in
 use Rattle.pdu.specs.Head.{head_checks, length_of, vector_of, flags_and_length}
 use Rattle.pdu.specs.declared.VectorLength.TheVariants.{Four}
 use Rattle.discovery.specs.Universes.{list_checks, universe_bytes}
-use Rattle.discovery.specs.declared.Discovery.{Discovery}
-use Rattle.discovery.specs.declared.Discovery.TheVariants.{Universes, Refused}
+use Rattle.discovery.specs.declared.DiscoveryLayer.{DiscoveryLayer}
 use Rattle.discovery.specs.declared.DiscoveryFields.{DiscoveryFields}
 
 -- the universes stand from byte 8 on, as many as the length says; an odd last byte is ignored
@@ -37,14 +37,14 @@ body_checks p len vec = own_checks p len vec ++ list_checks (list_part p) (count
 abbrev pub discovery_checks : List ℕ → List Check
 discovery_checks p = head_checks Four discovery p ++ body_checks p (length_of p) (vector_of Four p)
 
-abbrev pub layer_of : List ℕ → ℕ → Discovery
-layer_of p len = Universes (fields_of p) (count_in len)
+abbrev pub layer_of : List ℕ → ℕ → DiscoveryLayer
+layer_of p len = record { fields = fields_of p; count = count_in len }
 
-unfoldable pub body_of : List ℕ → ℕ → ℕ → Discovery
-body_of p len vec = reading Refused (body_checks p len vec) (layer_of p len)
+unfoldable pub body_of : List ℕ → ℕ → ℕ → Result DiscoveryLayer Refusal
+body_of p len vec = reading Err (body_checks p len vec) (Ok (layer_of p len))
 
-unfoldable pub discovery_of : List ℕ → Discovery
-discovery_of p = reading Refused (discovery_checks p) (layer_of p (length_of p))
+unfoldable pub discovery_of : List ℕ → Result DiscoveryLayer Refusal
+discovery_of p = reading Err (discovery_checks p) (Ok (layer_of p (length_of p)))
 
 -- flags and length, vector, page, last page; then the universes
 abbrev pub discovery_head : DiscoveryFields → ℕ → List ℕ

@@ -1,10 +1,9 @@
 -- A list of universes: its numbers, their order at reading and at writing, its bytes.
 use Rattle.std.specs.Prelude.{ℕ, zero, suc, ◌+◌, ◌*◌, ◌/◌, List, [], ◌∷◌, ◌++◌, length, drop, get_or}
 use Rattle.wire.specs.Fields.{u16_at, be16}
-use Rattle.refusal.specs.Check.{Check, check, Numbered, numbered, refusal, universe_list, nowhere, ◌≤?◌, ◌≠?◌, checked_of}
+use Rattle.refusal.specs.Check.{Check, check, Numbered, numbered, refusal, universe_list, nowhere, ◌≤?◌, ◌≠?◌, Checked, checked_of}
 use Rattle.refusal.specs.declared.Reason.TheVariants as why
 use Rattle.refusal.specs.declared.Start.TheVariants as start_in
-use Rattle.refusal.specs.declared.Checked.{Checked}
 
 -- the first n numbers of two bytes
 unfoldable pub universes : ℕ → List ℕ → List ℕ

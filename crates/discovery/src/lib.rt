@@ -1,15 +1,15 @@
 // The universe discovery layer: a page of universes, strictly ascending.
 #![tactic(auto)]
 
-ghost use Rattle.std.specs.Prelude.{true, ◌≡◌, ◌+◌, ◌*◌, ◌≤◌, ◌<◌, length};
+ghost use Rattle.std.specs.Prelude.{true, Ok, Err, ◌≡◌, ◌+◌, ◌*◌, ◌≤◌, ◌<◌, length};
 ghost use Rattle.std.proofs.lemmas.List.Edits.{sets};
 ghost use Rattle.wire.specs.Fields.{u16_at};
-ghost use Rattle.refusal.specs.Check.{refusal, checked_of, nowhere, discovery as discovery_place};
+ghost use Rattle.refusal.specs.Check.{refusal, checked_of, discovery as discovery_place};
 ghost use Rattle.discovery.specs.Universes.{all_universes, list_checks, order_checks, checked_from, universe_bytes};
 ghost use Rattle.discovery.specs.Layer.{discovery_of, body_of, discovery_bytes};
 
-use pdu::{PduInfo, VectorLength};
-use refusal::{Checked, Refusal};
+use pdu::VectorLength;
+use refusal::Refusal;
 use wire::constants::{
     E131_UNIVERSE_DISCOVERY_LAYER_MAX_LENGTH, E131_UNIVERSE_DISCOVERY_LAYER_MIN_LENGTH,
     VECTOR_UNIVERSE_DISCOVERY_UNIVERSE_LIST,
@@ -29,16 +29,17 @@ pub const E131_UNIVERSE_FIELD_LENGTH: usize = 2;
 const BLOCK: usize = 16;
 
 #[repr(C)]
-#[derive(Clone, Copy)]
+#[derive(Clone, Copy, Default)]
 pub struct DiscoveryFields {
     pub page: u8,
     pub last_page: u8,
 }
 
+// A layer that is read: its page, with as many universes.
 #[derive(Clone, Copy)]
-pub enum Discovery {
-    Universes { fields: DiscoveryFields, count: u16 },
-    Refused(Refusal),
+pub struct DiscoveryLayer {
+    pub fields: DiscoveryFields,
+    pub count: u16,
 }
 
 // The i-th universe of a list.
@@ -47,44 +48,43 @@ fn universe_at(p: &[u8], i: usize) -> u16
     ensures { result ≡ u16_at p.now (2 * i) }
 {
     let at = E131_UNIVERSE_FIELD_LENGTH * i;
-    p[at] as u16 * 0x100 + p[at + 1] as u16
+    u16::from_be_bytes([p[at], p[at + 1]])
 }
 
 // Looks through a list once.
-fn parse_universe_list(p: &[u8], count: usize) -> Checked
+fn parse_universe_list(p: &[u8], count: usize) -> Result<(), Refusal>
     ensures { result ≡ checked_of (list_checks p.now count) }
 {
     if p.len() / E131_UNIVERSE_FIELD_LENGTH < count {
-        return Checked::Refused(Refusal::new(refusal::PART_TOO_SHORT, refusal::UNIVERSE_LIST, 0));
+        return refusal::refuse(refusal::PART_TOO_SHORT, refusal::UNIVERSE_LIST, 0);
     }
     if count == 0 {
-        return Checked::Passed;
+        return Ok(());
     }
     let mut last = universe_at(p, 0);
-    let mut i = 1;
-    while i < count {
+    for i in 1..count {
         let u = universe_at(p, i);
         if u <= last {
-            return Checked::Refused(Refusal::new(
+            return refusal::refuse(
                 refusal::INVALID_UNIVERSE_ORDER,
                 refusal::UNIVERSE_LIST,
                 u as u32,
-            ));
+            );
         }
         last = u;
-        i += 1;
     }
-    Checked::Passed
+    Ok(())
 }
 
-fn refuse(number: u8, value: u32) -> Discovery
-    ensures { result ≡ Discovery.Refused (refusal number discovery_place value) }
+// The layer's place, said once: at each refusal it would be no plainer.
+fn refuse<T>(number: u8, value: u32) -> Result<T, Refusal>
+    ensures { result ≡ Err (refusal number discovery_place value) }
 {
-    Discovery::Refused(Refusal::new(number, refusal::DISCOVERY, value))
+    refusal::refuse(number, refusal::DISCOVERY, value)
 }
 
 // The checks after the layer's start.
-fn parse_body(p: &[u8], length: u16, vector: u32) -> Discovery
+fn parse_body(p: &[u8], length: u16, vector: u32) -> Result<DiscoveryLayer, Refusal>
     ensures { result ≡ body_of p.now length vector }
 {
     if length as usize != p.len() {
@@ -106,42 +106,28 @@ fn parse_body(p: &[u8], length: u16, vector: u32) -> Discovery
     }
     let count = (length - E131_UNIVERSE_DISCOVERY_LAYER_MIN_LENGTH) / 2;
     let list = &p[E131_DISCOVERY_LAYER_UNIVERSE_LIST_FIELD_INDEX..];
-    match parse_universe_list(list, count as usize) {
-        Checked::Refused(r) => Discovery::Refused(r),
-        Checked::Passed => Discovery::Universes {
-            fields: DiscoveryFields { page, last_page },
-            count,
-        },
-    }
+    parse_universe_list(list, count as usize)?;
+    Ok(DiscoveryLayer {
+        fields: DiscoveryFields { page, last_page },
+        count,
+    })
 }
 
-pub fn parse(p: &[u8]) -> Discovery
+// Reads the layer whose part is p.
+pub fn parse(p: &[u8]) -> Result<DiscoveryLayer, Refusal>
     ensures { result ≡ discovery_of p.now }
 {
-    match pdu::pdu_info(p, VectorLength::Four, refusal::DISCOVERY) {
-        PduInfo::Refused(r) => Discovery::Refused(r),
-        PduInfo::Info { length, vector } => parse_body(p, length, vector),
-    }
+    let info = pdu::pdu_info(p, VectorLength::Four, refusal::DISCOVERY)?;
+    parse_body(p, info.length, info.vector)
 }
 
 // Fills `out` with the universes of a list, as many as it has room for.
 pub fn copy_universes(list: &[u8], out: &mut [u16])
     ensures { out.new ≡ sets out.old 0 (all_universes list.now) }
 {
-    let mut i = 0;
-    while i < out.len() {
-        if list.len() / E131_UNIVERSE_FIELD_LENGTH <= i {
-            return;
-        }
+    for i in 0..wire::least(out.len(), list.len() / E131_UNIVERSE_FIELD_LENGTH) {
         out[i] = universe_at(list, i);
-        i += 1;
     }
-}
-
-fn refuse_order(number: u8) -> Checked
-    ensures { result ≡ Checked.Refused (refusal number nowhere 0) }
-{
-    Checked::Refused(Refusal::new(number, refusal::NOWHERE, 0))
 }
 
 fn still_rising(rising: bool, last: u16, u: u16) -> bool
@@ -156,13 +142,11 @@ fn still_rising(rising: bool, last: u16, u: u16) -> bool
 // It looks at all neighbours, so that it compiles to wide comparisons.
 fn all_rise(universes: &[u16]) -> bool
     requires { 0 < length universes.now }
-    ensures { result ≡ true → checked_of (order_checks universes.now) ≡ Checked.Passed }
+    ensures { result ≡ true → checked_of (order_checks universes.now) ≡ Ok tt }
 {
     let mut rising = true;
-    let mut i = 1;
-    while i < universes.len() {
+    for i in 1..universes.len() {
         rising = still_rising(rising, universes[i - 1], universes[i]);
-        i += 1;
     }
     rising
 }
@@ -173,10 +157,8 @@ fn block_rises(universes: &[u16], at: usize) -> bool
     ensures { result ≡ true → checked_from at universes.now ≡ checked_from (at + 16) universes.now }
 {
     let mut rising = true;
-    let mut i = 0;
-    while i < BLOCK {
-        rising = still_rising(rising, universes[at + i], universes[at + i + 1]);
-        i += 1;
+    for i in at..at + BLOCK {
+        rising = still_rising(rising, universes[i], universes[i + 1]);
     }
     rising
 }
@@ -187,6 +169,7 @@ fn rising_front(universes: &[u16]) -> usize
     ensures within { result < length universes.now }
     ensures front { checked_from 0 universes.now ≡ checked_from result universes.now }
 {
+    // No `for`: it goes block by block and answers where it stopped, which `step_by` with an answer behind it says in more.
     let mut at = 0;
     while BLOCK < universes.len() - at {
         if block_rises(universes, at) {
@@ -199,30 +182,27 @@ fn rising_front(universes: &[u16]) -> usize
 }
 
 // Whether universes may be written: the first two neighbours that do not rise refuse.
-pub fn check_order(universes: &[u16]) -> Checked
+pub fn check_order(universes: &[u16]) -> Result<(), Refusal>
     ensures { result ≡ checked_of (order_checks universes.now) }
 {
     if universes.len() == 0 {
-        return Checked::Passed;
+        return Ok(());
     }
     if all_rise(universes) {
-        return Checked::Passed;
+        return Ok(());
     }
     let front = rising_front(universes);
     let mut last = universes[front];
-    let mut i = front + 1;
-    while i < universes.len() {
-        let u = universes[i];
+    for &u in &universes[front + 1..] {
         if last == u {
-            return refuse_order(refusal::EQUAL_UNIVERSES);
+            return refusal::refuse(refusal::EQUAL_UNIVERSES, refusal::NOWHERE, 0);
         }
         if u < last {
-            return refuse_order(refusal::FALLING_UNIVERSES);
+            return refusal::refuse(refusal::FALLING_UNIVERSES, refusal::NOWHERE, 0);
         }
         last = u;
-        i += 1;
     }
-    Checked::Passed
+    Ok(())
 }
 
 // With plain indices under one bound this compiles to wide moves.
@@ -230,13 +210,11 @@ fn put_run(buf: &mut [u8], universes: &[u16])
     requires { 2 * length universes.now ≤ length buf.old }
     ensures { buf.new ≡ sets buf.old 0 (universe_bytes universes.now) }
 {
-    let mut i = 0;
-    while i < universes.len() {
-        let u = universes[i];
+    for (i, u) in universes.iter().enumerate() {
         let at = E131_UNIVERSE_FIELD_LENGTH * i;
-        buf[at] = (u / 0x100 % 0x100) as u8;
-        buf[at + 1] = (u % 0x100) as u8;
-        i += 1;
+        let [high, low] = u.to_be_bytes();
+        buf[at] = high;
+        buf[at + 1] = low;
     }
 }
 
@@ -247,10 +225,8 @@ fn put_each(buf: &mut [u8], at: usize, universes: &[u16])
     if buf.len() < at {
         return;
     }
-    let mut i = 0;
-    while i < universes.len() {
-        wire::put_u16(buf, at + E131_UNIVERSE_FIELD_LENGTH * i, universes[i]);
-        i += 1;
+    for (i, u) in universes.iter().enumerate() {
+        wire::put_u16(buf, at + E131_UNIVERSE_FIELD_LENGTH * i, *u);
     }
 }
 
@@ -278,13 +254,16 @@ pub fn pack(buf: &mut [u8], at: usize, fields: DiscoveryFields, universes: &[u16
         E131_DISCOVERY_LAYER_UNIVERSE_LIST_FIELD_INDEX
             + E131_UNIVERSE_FIELD_LENGTH * universes.len(),
     );
+    let [flags_0, flags_1] = flags.to_be_bytes();
+    let [vector_0, vector_1, vector_2, vector_3] =
+        VECTOR_UNIVERSE_DISCOVERY_UNIVERSE_LIST.to_be_bytes();
     let head = [
-        (flags / 0x100 % 0x100) as u8,
-        (flags % 0x100) as u8,
-        (VECTOR_UNIVERSE_DISCOVERY_UNIVERSE_LIST / 0x100_0000 % 0x100) as u8,
-        (VECTOR_UNIVERSE_DISCOVERY_UNIVERSE_LIST / 0x1_0000 % 0x100) as u8,
-        (VECTOR_UNIVERSE_DISCOVERY_UNIVERSE_LIST / 0x100 % 0x100) as u8,
-        (VECTOR_UNIVERSE_DISCOVERY_UNIVERSE_LIST % 0x100) as u8,
+        flags_0,
+        flags_1,
+        vector_0,
+        vector_1,
+        vector_2,
+        vector_3,
         fields.page,
         fields.last_page,
     ];

@@ -1,15 +1,14 @@
 -- The DMP layer of a data packet. Offsets count from the layer's first byte, in its part p.
-use Rattle.std.specs.Prelude.{ℕ, ◌+◌, List, [], ◌∷◌, ◌++◌, length}
+use Rattle.std.specs.Prelude.{ℕ, ◌+◌, List, [], ◌∷◌, ◌++◌, length, Result, Ok, Err}
 use Rattle.wire.specs.Fields.{byte_at, u16_at, be16, join}
 use Rattle.refusal.specs.Check.{Check, check, refusal, dmp, reaches, fits, ◌≤?◌, ◌=?◌, reading}
+use Rattle.refusal.specs.declared.Refusal.{Refusal}
 use Rattle.refusal.specs.declared.Reason.TheVariants as why
 use Rattle.refusal.specs.declared.Field.TheVariants as field_of
 use Rattle.refusal.specs.declared.Value.TheVariants as value_in
 use Rattle.refusal.specs.declared.VectorIn.TheVariants as vector-in
 use Rattle.pdu.specs.Head.{head_checks, length_of, vector_of, flags_and_length}
 use Rattle.pdu.specs.declared.VectorLength.TheVariants.{One}
-use Rattle.dmp.specs.declared.Dmp.{Dmp}
-use Rattle.dmp.specs.declared.Dmp.TheVariants.{Values, Refused}
 
 abbrev pub count_of : List ℕ → ℕ
 count_of p = u16_at p 8
@@ -42,15 +41,16 @@ body_checks p len vec = start_checks p len vec ++ count_checks p len
 abbrev pub dmp_checks : List ℕ → List Check
 dmp_checks p = head_checks One dmp p ++ body_checks p (length_of p) (vector_of One p)
 
-unfoldable pub dmp_of : List ℕ → Dmp
-dmp_of p = reading Refused (dmp_checks p) (Values (count_of p))
+-- how many values a layer has
+unfoldable pub dmp_of : List ℕ → Result ℕ Refusal
+dmp_of p = reading Err (dmp_checks p) (Ok (count_of p))
 
 -- the answer from a place of the list on: after the layer's start, at the count
-unfoldable pub body_of : List ℕ → ℕ → ℕ → Dmp
-body_of p len vec = reading Refused (body_checks p len vec) (Values (count_of p))
+unfoldable pub body_of : List ℕ → ℕ → ℕ → Result ℕ Refusal
+body_of p len vec = reading Err (body_checks p len vec) (Ok (count_of p))
 
-unfoldable pub counted_of : List ℕ → ℕ → Dmp
-counted_of p len = reading Refused (count_checks p len) (Values (count_of p))
+unfoldable pub counted_of : List ℕ → ℕ → Result ℕ Refusal
+counted_of p len = reading Err (count_checks p len) (Ok (count_of p))
 
 -- flags and length, vector, address type, first address, increment, count; then the values
 abbrev pub dmp_head : ℕ → List ℕ

@@ -1,12 +1,12 @@
 // The DMP layer of a data packet: the property values, start code first.
 #![tactic(auto)]
 
-ghost use Rattle.std.specs.Prelude.{◌≡◌};
+ghost use Rattle.std.specs.Prelude.{◌≡◌, Err};
 ghost use Rattle.std.proofs.lemmas.List.Edits.{sets};
 ghost use Rattle.refusal.specs.Check.{refusal, dmp as dmp_place};
 ghost use Rattle.dmp.specs.Layer.{dmp_of, body_of, counted_of, dmp_bytes};
 
-use pdu::{PduInfo, VectorLength};
+use pdu::VectorLength;
 use refusal::Refusal;
 use wire::constants::{
     E131_DATA_PACKET_DMP_LAYER_ADDRESS_INCREMENT, E131_DATA_PACKET_DMP_LAYER_FIRST_PROPERTY_FIELD,
@@ -25,20 +25,15 @@ pub const PROPERTY_VALUE_COUNT_FIELD_INDEX: usize = 8;
 
 const PROPERTY_VALUES_FIELD_INDEX: usize = DMP_LENGTH;
 
-#[derive(Clone, Copy)]
-pub enum Dmp {
-    Values { count: usize },
-    Refused(Refusal),
-}
-
-fn refuse(number: u8, value: u32) -> Dmp
-    ensures { result ≡ Dmp.Refused (refusal number dmp_place value) }
+// The layer's place, said once: at each refusal it would be no plainer.
+fn refuse<T>(number: u8, value: u32) -> Result<T, Refusal>
+    ensures { result ≡ Err (refusal number dmp_place value) }
 {
-    Dmp::Refused(Refusal::new(number, refusal::DMP, value))
+    refusal::refuse(number, refusal::DMP, value)
 }
 
 // The count: whether the layer's length says the same, and whether there is a start code.
-fn parse_count(p: &[u8], length: u16) -> Dmp
+fn parse_count(p: &[u8], length: u16) -> Result<usize, Refusal>
     ensures { result ≡ counted_of p.now length }
 {
     if p.len() < PROPERTY_VALUES_FIELD_INDEX {
@@ -54,11 +49,11 @@ fn parse_count(p: &[u8], length: u16) -> Dmp
     if UNIVERSE_CHANNEL_CAPACITY < count {
         return refuse(refusal::INVALID_DATA, 0);
     }
-    Dmp::Values { count }
+    Ok(count)
 }
 
 // The checks after the layer's start.
-fn parse_body(p: &[u8], length: u16, vector: u32) -> Dmp
+fn parse_body(p: &[u8], length: u16, vector: u32) -> Result<usize, Refusal>
     ensures { result ≡ body_of p.now length vector }
 {
     if p.len() < length as usize {
@@ -92,13 +87,12 @@ fn parse_body(p: &[u8], length: u16, vector: u32) -> Dmp
     parse_count(p, length)
 }
 
-pub fn parse(p: &[u8]) -> Dmp
+// Reads the layer whose part is p, and tells how many values it has.
+pub fn parse(p: &[u8]) -> Result<usize, Refusal>
     ensures { result ≡ dmp_of p.now }
 {
-    match pdu::pdu_info(p, VectorLength::One, refusal::DMP) {
-        PduInfo::Refused(r) => Dmp::Refused(r),
-        PduInfo::Info { length, vector } => parse_body(p, length, vector),
-    }
+    let info = pdu::pdu_info(p, VectorLength::One, refusal::DMP)?;
+    parse_body(p, info.length, info.vector)
 }
 
 // Writes the layer at `at`. It cannot refuse: whoever packs a packet has counted the values.
@@ -109,17 +103,21 @@ pub fn pack(buf: &mut [u8], at: usize, values: &[u8])
         return;
     }
     let flags = pdu::flags_and_length(PROPERTY_VALUES_FIELD_INDEX + values.len());
+    let [flags_0, flags_1] = flags.to_be_bytes();
+    let [property_0, property_1] = E131_DATA_PACKET_DMP_LAYER_FIRST_PROPERTY_FIELD.to_be_bytes();
+    let [increment_0, increment_1] = E131_DATA_PACKET_DMP_LAYER_ADDRESS_INCREMENT.to_be_bytes();
+    let [.., count_0, count_1] = values.len().to_be_bytes();
     let head = [
-        (flags / 0x100 % 0x100) as u8,
-        (flags % 0x100) as u8,
+        flags_0,
+        flags_1,
         VECTOR_DMP_SET_PROPERTY,
         E131_DMP_LAYER_ADDRESS_DATA_FIELD,
-        (E131_DATA_PACKET_DMP_LAYER_FIRST_PROPERTY_FIELD / 0x100) as u8,
-        (E131_DATA_PACKET_DMP_LAYER_FIRST_PROPERTY_FIELD % 0x100) as u8,
-        (E131_DATA_PACKET_DMP_LAYER_ADDRESS_INCREMENT / 0x100) as u8,
-        (E131_DATA_PACKET_DMP_LAYER_ADDRESS_INCREMENT % 0x100) as u8,
-        (values.len() / 0x100 % 0x100) as u8,
-        (values.len() % 0x100) as u8,
+        property_0,
+        property_1,
+        increment_0,
+        increment_1,
+        count_0,
+        count_1,
     ];
     wire::copy(buf, at, &head);
     wire::copy(buf, at + PROPERTY_VALUES_FIELD_INDEX, values);

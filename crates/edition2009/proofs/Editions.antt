@@ -7,7 +7,7 @@ use mathlib.Core.Logic.{◌⊎◌, inl, inr}
 use native.Mathlib.Omega.{arith}
 use lib.ListN.{length}
 use Rattle.refusal.specs.declared.Refusal.{Refusal}
-use Rattle.refusal.specs.declared.Checked.TheVariants as checked
+use Rattle.std.specs.Prelude.{Ok, Err}
 use Rattle.refusal.specs.Check.{outcome, pick, Check, refusal, root, framing, ◌≤?◌, ◌=?◌, ◌≠?◌, reading, checked_of}
 use Rattle.refusal.proofs.Tests.{Holds, chosen, decide}
 use Rattle.refusal.proofs.Laws.{All, Every, all_hold, first_fails, reading_++, always, every_++, after_check, check_first, computed}
@@ -132,16 +132,16 @@ editions d other = by (packet_kept d other)
     by (inr e) = inr e
 
 -- A refusal before the vector check is what a list that starts with those checks answers.
-refused_before : {A : Type 0} (f : Refusal → A) (cs ds : List Check) (a : A) (r : Refusal) → checked_of cs ≡ checked.Refused r → reading f (cs ++ ds) a ≡ f r
+refused_before : {A : Type 0} (f : Refusal → A) (cs ds : List Check) (a : A) (r : Refusal) → checked_of cs ≡ Err r → reading f (cs ++ ds) a ≡ f r
 unfolding reading
 refused_before f cs ds a r e = check_first f [] cs ds a ∙ ap (after_check f (reading f ds a)) e
 
-passed_before : {A : Type 0} (f : Refusal → A) (cs ds : List Check) (a : A) → checked_of cs ≡ checked.Passed → reading f (cs ++ ds) a ≡ reading f ds a
+passed_before : {A : Type 0} (f : Refusal → A) (cs ds : List Check) (a : A) → checked_of cs ≡ Ok tt → reading f (cs ++ ds) a ≡ reading f ds a
 unfolding reading
 passed_before f cs ds a e = check_first f [] cs ds a ∙ ap (after_check f (reading f ds a)) e
 
 -- Where preamble, the root layer's start or root length refuse, both readers give that refusal, whatever the root vector is.
-pub before_vector_lem : (d : List ℕ) (r : Refusal) → checked_of (before_vector d) ≡ checked.Refused r →
+pub before_vector_lem : (d : List ℕ) (r : Refusal) → checked_of (before_vector d) ≡ Err r →
     (reading_of d ≡ with_cid d (present.Refused r)) × (reading2009_of d ≡ with_cid2009 d (Refused r))
 unfolding reading_of reading2009_of packet_of packet2009_of
 before_vector_lem d r e =
@@ -153,7 +153,7 @@ before_vector_lem d r e =
     )
 
 -- Where they do not, and the root vector is 8, the 2009 reader refuses 4 at place 2 with value 8.
-pub eight : (d : List ℕ) → root_vector d ≡ 8 → checked_of (before_vector d) ≡ checked.Passed → reading2009_of d ≡ with_cid2009 d (Refused (refusal 4 root 8))
+pub eight : (d : List ℕ) → root_vector d ≡ 8 → checked_of (before_vector d) ≡ Ok tt → reading2009_of d ≡ with_cid2009 d (Refused (refusal 4 root 8))
 unfolding reading2009_of packet2009_of
 eight d h e =
     let v = root_vector d in

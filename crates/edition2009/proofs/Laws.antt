@@ -4,22 +4,22 @@ use mathlib.Core.Path.{◌≡◌, refl, ◌∙◌}
 use mathlib.Core.List.{List, ◌++◌}
 use native.Mathlib.Omega.{arith}
 use lib.ListN.{length, take, drop}
-use Rattle.refusal.proofs.Laws.{found, all_front, reading_++, inner}
+use Rattle.refusal.proofs.Laws.{found, all_front, reading_++, after, after_all}
 use Rattle.pdu.specs.Head.{length_of}
 use Rattle.pdu.specs.declared.Edition.TheVariants.{E2009}
 use Rattle.framing.specs.Data.{data_checks}
-use Rattle.root.specs.Root.{preamble_checks, root_part, root_checks, root_of}
-use Rattle.root.specs.declared.Root.{Root}
-use Rattle.root.specs.declared.Root.TheVariants as layer
+use Rattle.root.specs.Root.{preamble_checks, root_part, root_checks, found_in, root_of}
+use Rattle.root.specs.declared.RootLayer.{RootLayer}
 use Rattle.root.proofs.Laws.{within}
 use Rattle.packet.specs.Packet.{root_vector, framing_part}
 use Rattle.edition2009.specs.Packet.{packet_checks2009, data_record2009, packet2009_of, data_packet2009_of}
-use Rattle.edition2009.specs.declared.DataRecord2009.{DataRecord2009}
+use Rattle.packet.specs.declared.DataRecord.{DataRecord}
+use Rattle.edition2009.specs.declared.DataFields2009.{DataFields2009}
 use Rattle.edition2009.specs.declared.Packet2009.{Packet2009}
 use Rattle.edition2009.specs.declared.Packet2009.TheVariants.{Data, Refused}
 
 -- a datagram that is read as a data packet has room for the CID
-pub packet_within : (d : List ℕ) (x : DataRecord2009) → packet2009_of d ≡ Data x → 38 ≤ length d
+pub packet_within : (d : List ℕ) (x : DataRecord DataFields2009) → packet2009_of d ≡ Data x → 38 ≤ length d
 unfolding packet2009_of
 packet_within d x e =
     let p = framing_part d in
@@ -28,14 +28,13 @@ packet_within d x e =
     omega (arith, within E2009 d (all_front (preamble_checks d ++ root_checks E2009 (root_part d)) (data_checks E2009 p) f.0))
 
 -- what a datagram is read as, by its root layer
-abbrev pub after_root : List ℕ → Root → Packet2009
-after_root d (layer.Refused r) = Refused r
-after_root d (layer.Layer v n) = data_packet2009_of (take (n - 22) (drop 22 (root_part d)))
+abbrev pub framed : List ℕ → RootLayer → Packet2009
+framed d l = data_packet2009_of (take (l.end - 22) (drop 22 (root_part d)))
 
-pub by_root : (d : List ℕ) → packet2009_of d ≡ after_root d (root_of E2009 d)
+pub by_root : (d : List ℕ) → packet2009_of d ≡ after Refused (framed d) (root_of E2009 d)
 unfolding packet2009_of root_of data_packet2009_of
 by_root d =
     let outer = preamble_checks d ++ root_checks E2009 (root_part d) in
     let p = framing_part d in
     reading_++ Refused outer (data_checks E2009 p) (Data (data_record2009 p))
-    ∙ inner (after_root d) layer.Refused Refused outer (layer.Layer (root_vector d) (length_of (root_part d))) _ (λ r. refl) refl
+    ∙ after_all Refused (framed d) outer (found_in (root_part d))

@@ -10,10 +10,8 @@ use Rattle.packet.specs.declared.Packet.{Packet}
 use Rattle.packet.specs.declared.Packet.TheVariants as present
 use Rattle.packet.specs.declared.Reading.{Reading}
 use Rattle.edition2009.specs.declared.DataFields2009.{DataFields2009}
-use Rattle.edition2009.specs.declared.DataRecord2009.{DataRecord2009}
 use Rattle.edition2009.specs.declared.Packet2009.{Packet2009}
 use Rattle.edition2009.specs.declared.Packet2009.TheVariants.{Data, Refused}
-use Rattle.edition2009.specs.declared.Reading2009.{Reading2009}
 
 -- the sync address and the option to force synchronization are dropped
 abbrev pub dropped_fields : DataFields → DataFields2009
@@ -25,7 +23,7 @@ dropped_fields f = record {
   universe = f.universe;
 }
 
-abbrev pub dropped_record : DataRecord → DataRecord2009
+abbrev pub dropped_record : DataRecord DataFields → DataRecord DataFields2009
 dropped_record x = record { fields = dropped_fields x.fields; name = x.name; values = x.values }
 
 -- packets with root vector 8 are refused for it
@@ -36,7 +34,7 @@ dropped (present.Discovery x) = Refused (refusal 4 root 8)
 dropped (present.Refused r) = Refused r
 
 -- the CID is the same
-abbrev pub dropped_reading : Reading → Reading2009
+abbrev pub dropped_reading : Reading Packet → Reading Packet2009
 dropped_reading r = record { cid = r.cid; packet = dropped r.packet }
 
 -- preamble, the root layer's start, root length

@@ -11,10 +11,10 @@ use Rattle.name.specs.Name.{name_field}
 use Rattle.root.specs.Root.{preamble_checks, root_checks, root_part}
 use Rattle.packet.specs.Packet.{framing_part, span, cid_of}
 use Rattle.edition2009.specs.declared.DataFields2009.{DataFields2009}
-use Rattle.edition2009.specs.declared.DataRecord2009.{DataRecord2009}
+use Rattle.packet.specs.declared.DataRecord.{DataRecord}
 use Rattle.edition2009.specs.declared.Packet2009.{Packet2009}
 use Rattle.edition2009.specs.declared.Packet2009.TheVariants.{Data, Refused}
-use Rattle.edition2009.specs.declared.Reading2009.{Reading2009}
+use Rattle.packet.specs.declared.Reading.{Reading}
 
 -- the list of all checks: preamble, root, and the framing layer of a data packet with its DMP layer
 abbrev pub packet_checks2009 : List ℕ → List Check
@@ -30,7 +30,7 @@ fields2009_of p = record {
   universe = u16_at p 75;
 }
 
-abbrev pub data_record2009 : List ℕ → DataRecord2009
+abbrev pub data_record2009 : List ℕ → DataRecord DataFields2009
 data_record2009 p = record {
   fields = fields2009_of p;
   name = span 44 (zero_at (name_field p));
@@ -45,9 +45,9 @@ unfoldable pub data_packet2009_of : List ℕ → Packet2009
 data_packet2009_of p = reading Refused (data_checks E2009 p) (Data (data_record2009 p))
 
 -- the CID is sixteen zeros at a refusal
-abbrev pub with_cid2009 : List ℕ → Packet2009 → Reading2009
+abbrev pub with_cid2009 : List ℕ → Packet2009 → Reading Packet2009
 with_cid2009 d (Refused r) = record { cid = replicate 16 0; packet = Refused r }
 with_cid2009 d (Data x) = record { cid = cid_of d; packet = Data x }
 
-unfoldable pub reading2009_of : List ℕ → Reading2009
+unfoldable pub reading2009_of : List ℕ → Reading Packet2009
 reading2009_of d = with_cid2009 d (packet2009_of d)

@@ -7,16 +7,15 @@ ghost use Rattle.parts.specs.Parts.{shown_at};
 ghost use Rattle.edition2009.specs.Packet.{fields2009_of, data_packet2009_of, packet2009_of, reading2009_of};
 ghost use Rattle.edition2009.specs.Parts.{name_span, values_span};
 
-use framing::{Data, OPTIONS_FIELD_INDEX, PRIORITY_INDEX, SEQ_NUM_INDEX, UNIVERSE_INDEX};
-use packet::Span;
+use framing::{OPTIONS_FIELD_INDEX, PRIORITY_INDEX, SEQ_NUM_INDEX, UNIVERSE_INDEX};
+use packet::{DataRecord, Reading, Span};
 use pdu::Edition;
 use refusal::Refusal;
-use root::Root;
 use wire::constants::{E131_PREVIEW_DATA_OPTION_BIT_MASK, E131_STREAM_TERMINATION_OPTION_BIT_MASK};
 use wire::layout::{FRAMING_START, PREAMBLE_LENGTH, SOURCE_NAME_START, VALUES_START};
 
 #[repr(C)]
-#[derive(Clone, Copy)]
+#[derive(Clone, Copy, Default)]
 pub struct DataFields2009 {
     pub priority: u8,
     pub sequence_number: u8,
@@ -25,25 +24,14 @@ pub struct DataFields2009 {
     pub universe: u16,
 }
 
-#[derive(Clone, Copy)]
-pub struct DataRecord2009 {
-    pub fields: DataFields2009,
-    pub name: Span,
-    pub values: Span,
-}
-
+// An enum with the CID beside it, as document 01 has it and `Packet` is: `dropped` and `editions` set case beside case.
 #[derive(Clone, Copy)]
 pub enum Packet2009 {
-    Data(DataRecord2009),
+    Data(DataRecord<DataFields2009>),
     Refused(Refusal),
 }
 
-// The sender's CID stands beside what was read; it is sixteen zeros at a refusal.
-#[derive(Clone, Copy)]
-pub struct Reading2009 {
-    pub cid: [u8; 16],
-    pub packet: Packet2009,
-}
+pub type Reading2009 = Reading<Packet2009>;
 
 // The plain fields of the framing layer whose part is p; where it was refused they mean nothing.
 fn fields(p: &[u8]) -> DataFields2009
@@ -64,16 +52,16 @@ fn parse_data(p: &[u8]) -> Packet2009
     ensures { result ≡ data_packet2009_of p.now }
 {
     match framing::parse(p, Edition::E2009) {
-        Data::Refused(r) => Packet2009::Refused(r),
-        Data::Layer { name, values } => Packet2009::Data(DataRecord2009 {
+        Err(r) => Packet2009::Refused(r),
+        Ok(layer) => Packet2009::Data(DataRecord {
             fields: fields(p),
             name: Span {
                 start: SOURCE_NAME_START,
-                len: name,
+                len: layer.name,
             },
             values: Span {
                 start: VALUES_START,
-                len: values,
+                len: layer.values,
             },
         }),
     }
@@ -84,10 +72,8 @@ fn parse_packet(datagram: &[u8]) -> Packet2009
     ensures { result ≡ packet2009_of datagram.now }
 {
     match root::parse(datagram, Edition::E2009) {
-        Root::Refused(r) => Packet2009::Refused(r),
-        Root::Layer { vector: _, end } => {
-            parse_data(&datagram[FRAMING_START..PREAMBLE_LENGTH + end])
-        }
+        Err(r) => Packet2009::Refused(r),
+        Ok(layer) => parse_data(&datagram[FRAMING_START..PREAMBLE_LENGTH + layer.end]),
     }
 }
 
@@ -96,23 +82,24 @@ pub fn parse(datagram: &[u8]) -> Reading2009
     ensures { result ≡ reading2009_of datagram.now }
 {
     match parse_packet(datagram) {
-        Packet2009::Refused(r) => Reading2009 {
+        Packet2009::Refused(r) => Reading {
             cid: [0; 16],
             packet: Packet2009::Refused(r),
         },
-        Packet2009::Data(x) => Reading2009 {
+        Packet2009::Data(x) => Reading {
             cid: packet::cid(datagram),
             packet: Packet2009::Data(x),
         },
     }
 }
 
+// Beside those of `parts`: a trait with both spans, and an impl for each packet, would be longer than these four calls.
 fn name_span(packet: Packet2009) -> Span
     ensures { result ≡ name_span packet }
 {
     match packet {
         Packet2009::Data(x) => x.name,
-        Packet2009::Refused(_) => Span { start: 0, len: 0 },
+        Packet2009::Refused(_) => Span::default(),
     }
 }
 
@@ -121,7 +108,7 @@ fn values_span(packet: Packet2009) -> Span
 {
     match packet {
         Packet2009::Data(x) => x.values,
-        Packet2009::Refused(_) => Span { start: 0, len: 0 },
+        Packet2009::Refused(_) => Span::default(),
     }
 }
 
@@ -129,14 +116,12 @@ fn values_span(packet: Packet2009) -> Span
 pub fn name(datagram: &[u8], reading: Reading2009) -> &[u8]
     ensures { result.now ≡ shown_at datagram.now (name_span reading.packet) }
 {
-    let packet = reading.packet;
-    parts::shown(datagram, name_span(packet))
+    parts::shown(datagram, name_span(reading.packet))
 }
 
 // The values, likewise.
 pub fn values(datagram: &[u8], reading: Reading2009) -> &[u8]
     ensures { result.now ≡ shown_at datagram.now (values_span reading.packet) }
 {
-    let packet = reading.packet;
-    parts::shown(datagram, values_span(packet))
+    parts::shown(datagram, values_span(reading.packet))
 }

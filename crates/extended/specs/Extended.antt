@@ -1,18 +1,18 @@
 -- The framing layer under root vector 8, in its part p; `whole` is the length of root's whole part.
-use Rattle.std.specs.Prelude.{ℕ, List, [], ◌∷◌, ◌++◌}
+use Rattle.std.specs.Prelude.{ℕ, List, [], ◌∷◌, ◌++◌, Result, Ok, Err}
 use Rattle.refusal.specs.Check.{Check, check, refusal, framing, ◌≤?◌, ◌=?◌, ◌or◌, choose, reading}
+use Rattle.refusal.specs.declared.Refusal.{Refusal}
 use Rattle.refusal.specs.declared.Reason.TheVariants as why
 use Rattle.refusal.specs.declared.Room.TheVariants as room_in
 use Rattle.refusal.specs.declared.VectorIn.TheVariants as vector-in
 use Rattle.name.specs.Name.{zero_at}
 use Rattle.pdu.specs.Head.{head_checks, length_of, vector_of}
 use Rattle.pdu.specs.declared.VectorLength.TheVariants.{Four}
-use Rattle.discovery.specs.Layer.{count_in, fields_of as page_of}
 use Rattle.name.specs.Name.{name_field}
 use Rattle.extended.specs.Synchronization.{synchronization_checks, fields_of as synchronizationFields}
-use Rattle.extended.specs.UniverseDiscovery.{discovery_framing_checks, discovery_part}
+use Rattle.extended.specs.UniverseDiscovery.{discovery_framing_checks, discovery_part, layer_named}
 use Rattle.extended.specs.declared.Extended.{Extended}
-use Rattle.extended.specs.declared.Extended.TheVariants.{Synchronization, Discovery, Refused}
+use Rattle.extended.specs.declared.Extended.TheVariants.{Synchronization, Discovery}
 
 -- 14 if its length exceeds root's whole part; 4 if the vector is neither 1 nor 2
 abbrev pub kind_checks : ℕ → ℕ → ℕ → List Check
@@ -28,15 +28,12 @@ body_checks whole p len vec = kind_checks whole len vec ++ choose (vec =? 1) (sy
 abbrev pub extended_checks : ℕ → List ℕ → List Check
 extended_checks whole p = head_checks Four framing p ++ body_checks whole p (length_of p) (vector_of Four p)
 
-abbrev pub discovery_of : ℕ → List ℕ → Extended
-discovery_of name q = Discovery name (page_of q) (count_in (length_of q))
-
 abbrev pub layer_of : List ℕ → ℕ → ℕ → Extended
-layer_of p len vec = choose (vec =? 1) (Synchronization (synchronizationFields p)) (discovery_of (zero_at (name_field p)) (discovery_part p len))
+layer_of p len vec = choose (vec =? 1) (Synchronization (synchronizationFields p)) (Discovery (layer_named (zero_at (name_field p)) (discovery_part p len)))
 
-unfoldable pub extended_of : ℕ → List ℕ → Extended
-extended_of whole p = reading Refused (extended_checks whole p) (layer_of p (length_of p) (vector_of Four p))
+unfoldable pub extended_of : ℕ → List ℕ → Result Extended Refusal
+extended_of whole p = reading Err (extended_checks whole p) (Ok (layer_of p (length_of p) (vector_of Four p)))
 
 -- the answer after the start
-unfoldable pub body_of : ℕ → List ℕ → ℕ → ℕ → Extended
-body_of whole p len vec = reading Refused (body_checks whole p len vec) (layer_of p len vec)
+unfoldable pub body_of : ℕ → List ℕ → ℕ → ℕ → Result Extended Refusal
+body_of whole p len vec = reading Err (body_checks whole p len vec) (Ok (layer_of p len vec))

@@ -1,5 +1,5 @@
 // The framing layer of a synchronization packet.
-ghost use Rattle.std.specs.Prelude.{◌≡◌};
+ghost use Rattle.std.specs.Prelude.{◌≡◌, Err};
 ghost use Rattle.std.proofs.lemmas.List.Edits.{sets};
 ghost use Rattle.refusal.specs.Check.{refusal, framing as framing_place};
 ghost use Rattle.extended.specs.Bytes.{synchronization_framing_bytes};
@@ -17,26 +17,21 @@ const E131_SYNC_FRAMING_LAYER_SEQ_NUM_FIELD_INDEX: usize = 6;
 pub const E131_SYNC_FRAMING_LAYER_SYNC_ADDRESS_FIELD_INDEX: usize = 7;
 
 #[repr(C)]
-#[derive(Clone, Copy)]
+#[derive(Clone, Copy, Default)]
 pub struct SynchronizationFields {
     pub sequence_number: u8,
     pub synchronization_address: u16,
 }
 
-#[derive(Clone, Copy)]
-pub enum Synchronization {
-    Layer(SynchronizationFields),
-    Refused(Refusal),
-}
-
-fn refuse(number: u8, value: u32) -> Synchronization
-    ensures { result ≡ Synchronization.Refused (refusal number framing_place value) }
+// The layer's place, said once: at each refusal it would be no plainer.
+fn refuse<T>(number: u8, value: u32) -> Result<T, Refusal>
+    ensures { result ≡ Err (refusal number framing_place value) }
 {
-    Synchronization::Refused(Refusal::new(number, refusal::FRAMING, value))
+    refusal::refuse(number, refusal::FRAMING, value)
 }
 
 // Reads the layer whose start said this length, with the vector of a synchronization packet.
-pub fn parse(p: &[u8], length: u16) -> Synchronization
+pub fn parse(p: &[u8], length: u16) -> Result<SynchronizationFields, Refusal>
     ensures { result ≡ synchronization_of p.now length }
 {
     if p.len() < length as usize {
@@ -58,7 +53,7 @@ pub fn parse(p: &[u8], length: u16) -> Synchronization
             synchronization_address as u32,
         );
     }
-    Synchronization::Layer(SynchronizationFields {
+    Ok(SynchronizationFields {
         sequence_number: wire::byte_at(p, E131_SYNC_FRAMING_LAYER_SEQ_NUM_FIELD_INDEX),
         synchronization_address,
     })
@@ -77,13 +72,8 @@ pub fn pack(buf: &mut [u8], at: usize, fields: SynchronizationFields)
         E131_UNIVERSE_SYNC_PACKET_FRAMING_LAYER_LENGTH as usize,
         VECTOR_E131_EXTENDED_SYNCHRONIZATION,
     );
-    let bytes = [
-        fields.sequence_number,
-        (fields.synchronization_address / 0x100 % 0x100) as u8,
-        (fields.synchronization_address % 0x100) as u8,
-        0,
-        0,
-    ];
+    let [address_high, address_low] = fields.synchronization_address.to_be_bytes();
+    let bytes = [fields.sequence_number, address_high, address_low, 0, 0];
     wire::copy(
         buf,
         at + E131_SYNC_FRAMING_LAYER_SEQ_NUM_FIELD_INDEX,

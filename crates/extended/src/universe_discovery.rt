@@ -4,8 +4,7 @@ ghost use Rattle.extended.specs.Bytes.{discovery_framing_bytes};
 ghost use Rattle.std.specs.Prelude.{◌≡◌};
 ghost use Rattle.extended.specs.UniverseDiscovery.{discovery_framing_of};
 
-use discovery::{Discovery, DiscoveryFields};
-use name::SourceName;
+use discovery::DiscoveryFields;
 use refusal::Refusal;
 use wire::constants::{
     E131_UNIVERSE_DISCOVERY_FRAMING_LAYER_MIN_LENGTH, VECTOR_E131_EXTENDED_DISCOVERY,
@@ -24,48 +23,32 @@ const EMPTY_LENGTH: usize = DISCOVERY_FRAMING_LENGTH + DISCOVERY_LENGTH;
 
 // A layer that is read: how many bytes its name has, and its page with as many universes.
 #[derive(Clone, Copy)]
-pub enum DiscoveryFraming {
-    Layer {
-        name: usize,
-        fields: DiscoveryFields,
-        universes: u16,
-    },
-    Refused(Refusal),
+pub struct DiscoveryFraming {
+    pub name: usize,
+    pub fields: DiscoveryFields,
+    pub universes: u16,
 }
 
 // Reads the layer whose start said this length, with the vector of a universe discovery packet.
-pub fn parse(p: &[u8], length: u16) -> DiscoveryFraming
+pub fn parse(p: &[u8], length: u16) -> Result<DiscoveryFraming, Refusal>
     ensures { result ≡ discovery_framing_of p.now length }
 {
     let end = length as usize;
     if p.len() < end {
-        return DiscoveryFraming::Refused(Refusal::new(
-            refusal::LENGTH_BEYOND_PART,
-            refusal::FRAMING,
-            length as u32,
-        ));
+        return refusal::refuse(refusal::LENGTH_BEYOND_PART, refusal::FRAMING, length as u32);
     }
     if length < E131_UNIVERSE_DISCOVERY_FRAMING_LAYER_MIN_LENGTH {
-        return DiscoveryFraming::Refused(Refusal::new(
-            refusal::INVALID_LENGTH,
-            refusal::FRAMING,
-            length as u32,
-        ));
+        return refusal::refuse(refusal::INVALID_LENGTH, refusal::FRAMING, length as u32);
     }
     let field =
         &p[E131_DISCOVERY_FRAMING_LAYER_SOURCE_NAME_FIELD_INDEX..E131_DISCOVERY_FRAMING_LAYER_RESERVE_FIELD_INDEX];
-    let len = match name::parse_source_name_str(field) {
-        SourceName::Refused(r) => return DiscoveryFraming::Refused(r),
-        SourceName::Text { len } => len,
-    };
-    match discovery::parse(&p[E131_DISCOVERY_FRAMING_LAYER_DATA_INDEX..end]) {
-        Discovery::Refused(r) => DiscoveryFraming::Refused(r),
-        Discovery::Universes { fields, count } => DiscoveryFraming::Layer {
-            name: len,
-            fields,
-            universes: count,
-        },
-    }
+    let name = name::parse_source_name_str(field)?;
+    let layer = discovery::parse(&p[E131_DISCOVERY_FRAMING_LAYER_DATA_INDEX..end])?;
+    Ok(DiscoveryFraming {
+        name,
+        fields: layer.fields,
+        universes: layer.count,
+    })
 }
 
 // Writes the layer at `at`. It cannot refuse: whoever packs a packet has checked name and universes.

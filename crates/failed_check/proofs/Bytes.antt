@@ -31,7 +31,7 @@ use Rattle.packet.specs.Packet.{root_vector, framing_part}
 use Rattle.failed_check.specs.Bytes.{lies, number_of}
 use Rattle.failed_check.specs.Tell.{checks_of, told_of, outer_checks, framed_checks}
 use Rattle.failed_check.specs.declared.Fault.{Fault}
-use Rattle.failed_check.specs.declared.Told.TheVariants.{Refused}
+use Rattle.std.specs.Prelude.{Some}
 use Rattle.failed_check.proofs.Whole.{told_fails}
 
 -- the byte of a check lies as it is said, and in n bytes, or at their end where the number is 1
@@ -245,7 +245,7 @@ told_good Q (c ∷ cs) here after e hold fails = told_good Q cs here after (e.1 
 
 -- The told number is that of the reason. The told byte lies where request 06 says; it is one of the datagram's, save where number 1 says that there are too few bytes, and then it is at
 -- most the first behind them.
-pub told_byte : (edition : Edition) (d : List ℕ) (f : Fault) → told_of edition d ≡ Refused f →
+pub told_byte : (edition : Edition) (d : List ℕ) (f : Fault) → told_of edition d ≡ Some f →
     (f.refusal.number ≡ number_of f.check.reason)
     × Holds (lies f.check.reason f.refusal.place f.check.byte)
     × (f.check.byte ≤ length d)

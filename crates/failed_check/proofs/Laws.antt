@@ -7,16 +7,15 @@ use mathlib.Core.Logic.{⊎_elim}
 use native.Mathlib.Omega.{arith}
 use Rattle.refusal.specs.declared.Refusal.{Refusal}
 use Rattle.refusal.specs.declared.Identity.{Identity}
-use Rattle.refusal.specs.declared.Checked.{Checked}
-use Rattle.refusal.specs.declared.Checked.TheVariants as checked
-use Rattle.refusal.specs.Check.{Test, Check, outcome, pick, reading, checked_of, ◌=?◌, ◌and◌}
+use Rattle.std.specs.Prelude.{Result, Ok, Err}
+use Rattle.refusal.specs.Check.{Test, Check, Checked, outcome, pick, reading, checked_of, ◌=?◌, ◌and◌}
 use Rattle.refusal.proofs.Tests.{Holds, Fails, decided, decide}
-use Rattle.refusal.proofs.Laws.{All, Stops, refusal_at, Every, every, decides, all_hold, first_fails, always, computed}
+use Rattle.refusal.proofs.Laws.{not_refused, All, Stops, refusal_at, Every, every, decides, all_hold, first_fails, always, computed}
 use Rattle.pdu.specs.declared.Edition.{Edition}
 use Rattle.pdu.specs.declared.Edition.TheVariants.{E2018, E2009}
 use Rattle.failed_check.specs.Tell.{fault, told_by, Refuses, Names}
 use Rattle.failed_check.specs.declared.Fault.{Fault}
-use Rattle.failed_check.specs.declared.Told.TheVariants.{Readable, Refused}
+use Rattle.std.specs.Prelude.{None, Some}
 
 -- the check at k is x
 abbrev pub At : ℕ → List Check → Identity → Type 0
@@ -25,36 +24,35 @@ At zero (c ∷ cs) x = x ≡ c.identity
 At (suc k) (c ∷ cs) x = At k cs x
 
 -- a refusal of a list is that of one of its checks
-same_refusal : (r s : Refusal) → checked.Refused r ≡ checked.Refused s → r ≡ s
+same_refusal : {A : Type 0} (r s : Refusal) → ◌≡◌ {A = Result A Refusal} (Err r) (Err s) → r ≡ s
 same_refusal r s e = cc
 
-pub no_refusal_lem : (r : Refusal) → checked.Passed ≡ checked.Refused r → ⊥
-no_refusal_lem r e = let z : ◌≡◌ {A = ℕ} 0 1 = cc in omega arith
+pub no_refusal_lem : {A : Type 0} (a : A) (r : Refusal) → ◌≡◌ {A = Result A Refusal} (Ok a) (Err r) → ⊥
+no_refusal_lem a r e = not_refused a r (sym e)
 
-pub not_readable : (f : Fault) → Readable ≡ Refused f → ⊥
+pub not_readable : (f : Fault) → None ≡ Some f → ⊥
 not_readable f e = let z : ◌≡◌ {A = ℕ} 0 1 = cc in omega arith
 
 -- a reader's refusal is that of its list
-pub refused_by : {A : Type 0} (refused : Refusal → A) (cs : List Check) (next : A) (r : Refusal) → ((s : Refusal) → refused s ≡ refused r → s ≡ r) →
-    (next ≡ refused r → ⊥) → reading refused cs next ≡ refused r → Refuses cs r
+pub refused_by : {A : Type 0} (cs : List Check) (next : A) (r : Refusal) → reading Err cs (Ok next) ≡ Err r → Refuses cs r
 unfolding checked_of
-refused_by refused cs next r same other e =
-    ⊎_elim (λ (a : All cs). absurd (other (sym (all_hold refused cs next a) ∙ e)))
+refused_by cs next r e =
+    ⊎_elim (λ (a : All cs). absurd (no_refusal_lem next r (sym (all_hold Err cs (Ok next) a) ∙ e)))
     (λ (s : (k : ℕ) × Stops k cs).
-    first_fails checked.Refused s.0 cs checked.Passed s.1
-    ∙ ap checked.Refused (same (refusal_at s.0 cs) (sym (first_fails refused s.0 cs next s.1) ∙ e)))
+    first_fails Err s.0 cs (Ok tt) s.1
+    ∙ ap Err (same_refusal (refusal_at s.0 cs) r (sym (first_fails Err s.0 cs (Ok next) s.1) ∙ e)))
     (decides cs)
 
 -- what is so of each refusal of a list is so of this one
 pub among : (t : Refusal → Test) (cs : List Check) (r : Refusal) → every t cs ≡ true → Refuses cs r → Holds (t r)
 unfolding checked_of
 among t cs r all e =
-    let answer : So (checked_of cs) = always checked.Refused So cs checked.Passed (computed t cs all) tt in
+    let answer : So (checked_of cs) = always Err So cs (Ok tt) (computed t cs all) tt in
     rw e at answer
   where
     So : Checked → Type 0
-    So checked.Passed = Unit {0}
-    So (checked.Refused r) = Holds (t r)
+    So (Ok p) = Unit {0}
+    So (Err r) = Holds (t r)
 
 -- The first check of a list holds, or refuses.
 module _ (c : Check) (cs : List Check) where
@@ -66,11 +64,11 @@ module _ (c : Check) (cs : List Check) where
   unfolding checked_of reading
   skip_refuses h = rw (decided c.test true h)
 
-  pub here_told : Fails c.test → told_by (c ∷ cs) ≡ Refused (fault c.otherwise c.identity)
+  pub here_told : Fails c.test → told_by (c ∷ cs) ≡ Some (fault c.otherwise c.identity)
   unfolding told_by
   here_told h = rw (decided c.test false h)
 
-  here_refuses : Fails c.test → checked_of (c ∷ cs) ≡ checked.Refused c.otherwise
+  here_refuses : Fails c.test → checked_of (c ∷ cs) ≡ Err c.otherwise
   unfolding checked_of reading
   here_refuses h = rw (decided c.test false h)
 
@@ -78,7 +76,7 @@ module _ (c : Check) (cs : List Check) where
   pub here : (r : Refusal) → Fails c.test → Refuses (c ∷ cs) r → Names (c ∷ cs) r c.identity
   here r h e =
       let same : c.otherwise ≡ r = same_refusal c.otherwise r (sym (here_refuses h) ∙ e) in
-      here_told h ∙ ap (λ (s : Refusal). Refused (fault s c.identity)) same
+      here_told h ∙ ap (λ (s : Refusal). Some (fault s c.identity)) same
 
 -- the checks that refuse with this number at this place
 abbrev pub only : ℕ → ℕ → List Check → List Check
@@ -91,7 +89,7 @@ Narrowed cs r ds = (told_by cs ≡ told_by ds) × Refuses ds r
 -- they decide
 narrow : (n p : ℕ) (cs : List Check) (r : Refusal) → Refuses cs r → r.number ≡ n → r.place ≡ p → Narrowed cs r (only n p cs)
 unfolding checked_of reading
-narrow n p [] r e f g = absurd (no_refusal_lem r e)
+narrow n p [] r e f g = absurd (no_refusal_lem tt r e)
 narrow n p (c ∷ cs) r e f g =
     let mine : Test = c.otherwise.number =? n and c.otherwise.place =? p in
     let ds = only n p cs in
@@ -104,7 +102,7 @@ narrow n p (c ∷ cs) r e f g =
     (λ h.
     let same : c.otherwise ≡ r = same_refusal c.otherwise r (sym (here_refuses c cs h) ∙ e) in
     let m : Holds mine = (ap (λ (s : Refusal). s.number) same ∙ f, ap (λ (s : Refusal). s.place) same ∙ g) in
-    rw (decided mine true m) (here_told c cs h ∙ sym (here_told c ds h), here_refuses c ds h ∙ ap checked.Refused same))
+    rw (decided mine true m) (here_told c cs h ∙ sym (here_told c ds h), here_refuses c ds h ∙ ap Err same))
 
 -- the check that is told is the last of a list, for those before it hold
 abbrev pub Last : Identity → List Check → Type 0
@@ -114,17 +112,17 @@ Last x (c ∷ d ∷ ds) = Holds c.test × Last x (d ∷ ds)
 
 last_named : (cs : List Check) (r : Refusal) (x : Identity) → Refuses cs r → Last x cs → Names cs r x
 unfolding checked_of reading
-last_named [] r x e l = absurd (no_refusal_lem r e)
+last_named [] r x e l = absurd (no_refusal_lem tt r e)
 last_named (c ∷ []) r x e l =
-    decide c.test (λ h. absurd (no_refusal_lem r (sym (skip_refuses c [] h) ∙ e)))
-    (λ h. here c [] r h e ∙ ap (λ (y : Identity). Refused (fault r y)) (sym l))
+    decide c.test (λ h. absurd (no_refusal_lem tt r (sym (skip_refuses c [] h) ∙ e)))
+    (λ h. here c [] r h e ∙ ap (λ (y : Identity). Some (fault r y)) (sym l))
 last_named (c ∷ d ∷ ds) r x e l =
     skip_told c (d ∷ ds) l.0 ∙ last_named (d ∷ ds) r x (sym (skip_refuses c (d ∷ ds) l.0) ∙ e) l.1
 
 -- it is the one at k, which fails as those before it hold
 stop_named : (k : ℕ) (cs : List Check) (r : Refusal) (x : Identity) → Refuses cs r → Stops k cs → At k cs x → Names cs r x
 stop_named k [] r x e s a = absurd s
-stop_named zero (c ∷ cs) r x e s a = here c cs r s e ∙ ap (λ (y : Identity). Refused (fault r y)) (sym a)
+stop_named zero (c ∷ cs) r x e s a = here c cs r s e ∙ ap (λ (y : Identity). Some (fault r y)) (sym a)
 stop_named (suc k) (c ∷ cs) r x e s a =
     skip_told c cs s.0 ∙ stop_named k cs r x (sym (skip_refuses c cs s.0) ∙ e) s.1 a
 
@@ -155,7 +153,7 @@ behind (c ∷ cs) ds r e other =
 
 none_left : (ds : List Check) (r : Refusal) → Refuses ds r → Every (λ (s : Refusal). s.place ≡ r.place → ⊥) ds → ⊥
 unfolding checked_of reading
-none_left [] r e other = no_refusal_lem r e
+none_left [] r e other = no_refusal_lem tt r e
 none_left (c ∷ cs) r e other =
     decide c.test (λ h. none_left cs r (sym (skip_refuses c cs h) ∙ e) (other.1 h))
     (λ h. other.0 h (ap (λ (s : Refusal). s.place) (same_refusal c.otherwise r (sym (here_refuses c cs h) ∙ e))))
@@ -192,7 +190,7 @@ module _ (cs : Edition → List Check) (r : Refusal) where
   among_in E2009 t now old e = among t (cs E2009) r old e
 
 -- All checks hold, and nothing is told; those of a front hold, and the rest is told; a check of the front is told.
-pub all_readable : (cs : List Check) → All cs → told_by cs ≡ Readable
+pub all_readable : (cs : List Check) → All cs → told_by cs ≡ None
 unfolding told_by
 all_readable [] h = refl
 all_readable (c ∷ cs) h = skip_told c cs h.0 ∙ all_readable cs h.1
@@ -201,7 +199,7 @@ pub told_back : (cs ds : List Check) → All cs → told_by (cs ++ ds) ≡ told_
 told_back [] ds h = refl
 told_back (c ∷ cs) ds h = skip_told c (cs ++ ds) h.0 ∙ told_back cs ds h.1
 
-pub told_front : (cs ds : List Check) (f : Fault) → told_by cs ≡ Refused f → told_by (cs ++ ds) ≡ Refused f
+pub told_front : (cs ds : List Check) (f : Fault) → told_by cs ≡ Some f → told_by (cs ++ ds) ≡ Some f
 unfolding told_by
 told_front [] ds f e = absurd (not_readable f e)
 told_front (c ∷ cs) ds f e =

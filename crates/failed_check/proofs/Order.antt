@@ -76,4 +76,4 @@ unfolding checked_of reading
 not_done list u i r done a refuses =
     let us = universes (length list / 2) list in
     let none : order_from us u i ≡ [] = rw (drop_of_length-le us (let h : length us ≤ i = omega (arith, done, universes_length (length list / 2) list) in h)) in
-    no_refusal_lem r (sym (ap (λ (cs : List Check). checked_of cs) none) ∙ a.1 ∙ refuses)
+    no_refusal_lem tt r (sym (ap (λ (cs : List Check). checked_of cs) none) ∙ a.1 ∙ refuses)

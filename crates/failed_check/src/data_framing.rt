@@ -52,8 +52,7 @@ fn in_framing(p: &[u8], edition: Edition, refusal: Refusal) -> Identity
     requires { Refuses (data_checks edition p.now) refusal × (refusal.place ≡ framing_place) }
     ensures { Names (data_checks edition p.now) refusal result }
 {
-    let number = refusal.number;
-    match number {
+    match refusal.number {
         refusal::PART_TOO_SHORT => at(Reason::TooShort(Start::Layer), FRAMING_START),
         refusal::INVALID_FLAGS => at(Reason::Flags, FRAMING_START),
         refusal::LENGTH_BEYOND_PART => at(Reason::Beyond(Room::Part), FRAMING_START),

@@ -70,8 +70,7 @@ pub(crate) fn find(q: &[u8], refusal: Refusal) -> Identity
     requires { Refuses (dmp_checks q.now) refusal }
     ensures { Names (dmp_checks q.now) refusal result }
 {
-    let number = refusal.number;
-    match number {
+    match refusal.number {
         refusal::PART_TOO_SHORT => at(Reason::TooShort(Start::Layer), DMP_START),
         refusal::INVALID_FLAGS => at(Reason::Flags, DMP_START),
         refusal::LENGTH_BEYOND_PART => at(Reason::Beyond(Room::Part), DMP_START),

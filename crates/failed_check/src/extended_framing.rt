@@ -41,8 +41,7 @@ fn in_framing(p: &[u8], whole: usize, refusal: Refusal) -> Identity
     requires { Refuses (extended_checks whole p.now) refusal × (refusal.place ≡ framing_place) }
     ensures { Names (extended_checks whole p.now) refusal result }
 {
-    let number = refusal.number;
-    match number {
+    match refusal.number {
         refusal::PART_TOO_SHORT => at(Reason::TooShort(Start::Layer), FRAMING_START),
         refusal::INVALID_FLAGS => at(Reason::Flags, FRAMING_START),
         refusal::LENGTH_BEYOND_PART => too_long(p, whole, refusal),
@@ -65,8 +64,7 @@ fn in_discovery(q: &[u8], refusal: Refusal) -> Identity
     requires { Refuses (discovery_checks q.now) refusal × (refusal.place ≡ discovery_place) }
     ensures { Names (discovery_checks q.now) refusal result }
 {
-    let number = refusal.number;
-    match number {
+    match refusal.number {
         refusal::PART_TOO_SHORT => at(Reason::TooShort(Start::Layer), DISCOVERY_START),
         refusal::INVALID_FLAGS => at(Reason::Flags, DISCOVERY_START),
         refusal::LENGTH_DIFFERS_FROM_PART => at(Reason::LengthDiffers, DISCOVERY_START),

@@ -14,11 +14,8 @@ ghost use Rattle.framing.specs.Data.{data_checks};
 ghost use Rattle.extended.specs.Extended.{extended_checks};
 ghost use Rattle.failed_check.specs.Tell.{identity, told_by, told_of, framed_checks};
 
-use extended::Extended;
-use framing::Data;
 use pdu::Edition;
 use refusal::{Identity, Reason, Refusal};
-use root::Root;
 use wire::constants::VECTOR_ROOT_E131_DATA;
 use wire::layout::{FRAMING_START, PREAMBLE_LENGTH};
 
@@ -27,12 +24,6 @@ use wire::layout::{FRAMING_START, PREAMBLE_LENGTH};
 pub struct Fault {
     pub refusal: Refusal,
     pub check: Identity,
-}
-
-#[derive(Clone, Copy)]
-pub enum Told {
-    Readable,
-    Refused(Fault),
 }
 
 pub(crate) fn at(reason: Reason, byte: usize) -> Identity
@@ -49,34 +40,33 @@ pub(crate) fn layer_length(p: &[u8]) -> usize
 }
 
 // The framing layer of a data packet, whose part is p.
-fn tell_data(p: &[u8], edition: Edition) -> Told
+fn tell_data(p: &[u8], edition: Edition) -> Option<Fault>
     ensures { result ≡ told_by (data_checks edition p.now) }
 {
     match framing::parse(p, edition) {
-        Data::Layer { .. } => Told::Readable,
-        Data::Refused(refusal) => {
+        Ok(_) => None,
+        Err(refusal) => {
             let check = crate::data_framing::find(p, edition, refusal);
-            Told::Refused(Fault { refusal, check })
+            Some(Fault { refusal, check })
         }
     }
 }
 
 // The framing layer under the extended root vector, whose part is p; root's part has `whole` bytes.
-fn tell_extended(p: &[u8], whole: usize) -> Told
+fn tell_extended(p: &[u8], whole: usize) -> Option<Fault>
     ensures { result ≡ told_by (extended_checks whole p.now) }
 {
     match extended::parse(p, whole) {
-        Extended::Synchronization(_) => Told::Readable,
-        Extended::Discovery { .. } => Told::Readable,
-        Extended::Refused(refusal) => {
+        Ok(_) => None,
+        Err(refusal) => {
             let check = crate::extended_framing::find(p, whole, refusal);
-            Told::Refused(Fault { refusal, check })
+            Some(Fault { refusal, check })
         }
     }
 }
 
 // The framing layer that edition and root vector name.
-fn tell_framing(p: &[u8], edition: Edition, vector: u32, whole: usize) -> Told
+fn tell_framing(p: &[u8], edition: Edition, vector: u32, whole: usize) -> Option<Fault>
     ensures { result ≡ told_by (framed_checks edition vector whole p.now) }
 {
     match edition {
@@ -92,17 +82,22 @@ fn tell_framing(p: &[u8], edition: Edition, vector: u32, whole: usize) -> Told
 }
 
 // Tells the check that refuses a datagram, or that none does.
-pub fn tell(datagram: &[u8], edition: Edition) -> Told
+pub fn tell(datagram: &[u8], edition: Edition) -> Option<Fault>
     ensures { result ≡ told_of edition datagram.now }
 {
     match root::parse(datagram, edition) {
-        Root::Refused(refusal) => {
+        Err(refusal) => {
             let check = crate::outer::find(datagram, edition, refusal);
-            Told::Refused(Fault { refusal, check })
+            Some(Fault { refusal, check })
         }
-        Root::Layer { vector, end } => {
-            let part = &datagram[FRAMING_START..PREAMBLE_LENGTH + end];
-            tell_framing(part, edition, vector, datagram.len() - PREAMBLE_LENGTH)
+        Ok(layer) => {
+            let part = &datagram[FRAMING_START..PREAMBLE_LENGTH + layer.end];
+            tell_framing(
+                part,
+                edition,
+                layer.vector,
+                datagram.len() - PREAMBLE_LENGTH,
+            )
         }
     }
 }

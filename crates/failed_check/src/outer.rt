@@ -45,8 +45,7 @@ fn in_root(d: &[u8], edition: Edition, refusal: Refusal) -> Identity
     requires { Refuses (outer_checks edition d.now) refusal × (refusal.place ≡ root_place) }
     ensures { Names (outer_checks edition d.now) refusal result }
 {
-    let number = refusal.number;
-    match number {
+    match refusal.number {
         refusal::PART_TOO_SHORT => at(Reason::TooShort(Start::Layer), PREAMBLE_LENGTH),
         refusal::INVALID_FLAGS => at(Reason::Flags, PREAMBLE_LENGTH),
         refusal::LENGTH_BEYOND_PART => at(Reason::Beyond(Room::Part), PREAMBLE_LENGTH),

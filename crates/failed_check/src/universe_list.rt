@@ -24,12 +24,13 @@ pub(crate) fn find(list: &[u8], refusal: Refusal) -> Identity
     requires { Refuses (list_checks list.now (length list.now / 2)) refusal }
     ensures { Names (list_checks list.now (length list.now / 2)) refusal result }
 {
-    let mut i = 1;
-    while i < list.len() / E131_UNIVERSE_FIELD_LENGTH && rises(list, i) {
-        i += 1;
+    for i in 1..list.len() / E131_UNIVERSE_FIELD_LENGTH {
+        if !rises(list, i) {
+            return at(
+                Reason::Order,
+                UNIVERSES_START + E131_UNIVERSE_FIELD_LENGTH * i,
+            );
+        }
     }
-    at(
-        Reason::Order,
-        UNIVERSES_START + E131_UNIVERSE_FIELD_LENGTH * i,
-    )
+    unreachable!()
 }

@@ -10,6 +10,7 @@ use discovery::DiscoveryFields;
 use extended::synchronization::SynchronizationFields;
 use framing::DataFields;
 use refusal::Refusal;
+use text::Text;
 
 fn flag_digit(flag: bool) -> u8
     ensures { result ≡ flag_digit flag }
@@ -18,56 +19,56 @@ fn flag_digit(flag: bool) -> u8
 }
 
 // Preview, terminated, force.
-fn put_flags(out: &mut [u8], at: usize, fields: DataFields) -> usize
-    ensures { Put out.old out.new at result (flags_text fields) }
+fn put_flags(out: &mut Text, fields: DataFields)
+    ensures { Put out.old out.new (flags_text fields) }
 {
     let digits = [
         flag_digit(fields.preview_data),
         flag_digit(fields.stream_terminated),
         flag_digit(fields.force_synchronization),
     ];
-    let next = text::put(out, at, b" flags ");
-    text::put(out, next, &digits)
+    out.put(b" flags ");
+    out.put(&digits);
 }
 
 // From the priority to the universe.
-pub fn put_data_fields(out: &mut [u8], at: usize, fields: DataFields) -> usize
-    ensures { Put out.old out.new at result (data_fields_text fields) }
+pub fn put_data_fields(out: &mut Text, fields: DataFields)
+    ensures { Put out.old out.new (data_fields_text fields) }
 {
-    let next = text::put_field(out, at, b" prio ", fields.priority as u64);
-    let next = text::put_field(out, next, b" sync ", fields.synchronization_address as u64);
-    let next = text::put_field(out, next, b" seq ", fields.sequence_number as u64);
-    let next = put_flags(out, next, fields);
-    text::put_field(out, next, b" univ ", fields.universe as u64)
+    out.put_field(b" prio ", fields.priority as u64);
+    out.put_field(b" sync ", fields.synchronization_address as u64);
+    out.put_field(b" seq ", fields.sequence_number as u64);
+    put_flags(out, fields);
+    out.put_field(b" univ ", fields.universe as u64);
 }
 
-pub fn put_synchronization_fields(out: &mut [u8], at: usize, fields: SynchronizationFields) -> usize
-    ensures { Put out.old out.new at result (synchronization_text fields) }
+pub fn put_synchronization_fields(out: &mut Text, sync: SynchronizationFields)
+    ensures { Put out.old out.new (synchronization_text sync) }
 {
-    let next = text::put_field(out, at, b" seq ", fields.sequence_number as u64);
-    text::put_field(out, next, b" addr ", fields.synchronization_address as u64)
+    out.put_field(b" seq ", sync.sequence_number as u64);
+    out.put_field(b" addr ", sync.synchronization_address as u64);
 }
 
-pub fn put_page(out: &mut [u8], at: usize, fields: DiscoveryFields) -> usize
-    ensures { Put out.old out.new at result (page_text fields) }
+pub fn put_page(out: &mut Text, fields: DiscoveryFields)
+    ensures { Put out.old out.new (page_text fields) }
 {
-    let next = text::put_field(out, at, b" page ", fields.page as u64);
-    text::put_field(out, next, b" last ", fields.last_page as u64)
+    out.put_field(b" page ", fields.page as u64);
+    out.put_field(b" last ", fields.last_page as u64);
 }
 
 // An entry's number, a word, and bytes in hex.
-pub fn put_named(out: &mut [u8], at: usize, n: u64, word: &[u8], name: &[u8]) -> usize
-    ensures { Put out.old out.new at result (decimal n ++ (word.now ++ hex name.now)) }
+pub fn put_named(out: &mut Text, n: u64, word: &[u8], name: &[u8])
+    ensures { Put out.old out.new (decimal n ++ (word.now ++ hex name.now)) }
 {
-    let next = text::put_decimal(out, at, n);
-    let next = text::put(out, next, word);
-    text::put_hex(out, next, name)
+    out.put_decimal(n);
+    out.put(word);
+    out.put_hex(name);
 }
 
-pub fn put_refusal(out: &mut [u8], at: usize, refusal: Refusal) -> usize
-    ensures { Put out.old out.new at result (refusal_text refusal) }
+pub fn put_refusal(out: &mut Text, refusal: Refusal)
+    ensures { Put out.old out.new (refusal_text refusal) }
 {
-    let next = text::put_field(out, at, b" refused ", refusal.number as u64);
-    let next = text::put_field(out, next, b" place ", refusal.place as u64);
-    text::put_field(out, next, b" value ", refusal.value as u64)
+    out.put_field(b" refused ", refusal.number as u64);
+    out.put_field(b" place ", refusal.place as u64);
+    out.put_field(b" value ", refusal.value as u64);
 }

@@ -1,8 +1,5 @@
 -- How long the texts can be. Assumes nothing.
-use Prim.Native.Nat.{ℕ, ◌+◌, ◌≤◌, ◌<◌}
-use mathlib.Core.List.{List, [], ◌++◌}
-use native.Mathlib.Omega.{arith}
-use lib.ListN.{length, length-append}
+use Rattle.std.proofs.Common.{ℕ, ◌+◌, ◌≤◌, ◌<◌, List, [], ◌++◌, arith, length, length-append}
 use Rattle.text.specs.Digits.{ascii, decimal}
 use Rattle.text.proofs.Decimals.{digits}
 use Rattle.failed_check.specs.declared.Fault.{Fault}

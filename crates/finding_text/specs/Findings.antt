@@ -1,20 +1,16 @@
 -- What a reader finds, in words: `readable`, or `refused at byte B in the LAYER: WRONG: wanted WANTED, found F`.
-use Rattle.std.specs.Prelude.{ℕ, List, [], ◌∷◌, ◌++◌}
+use Rattle.std.specs.Prelude.{ℕ, List, [], ◌∷◌, ◌++◌, Option, Some, None}
 use Rattle.wire.specs.Fields.{join}
 use Rattle.text.specs.Digits.{ascii, decimal}
 use Rattle.failed_check.specs.declared.Fault.{Fault}
-use Rattle.failed_check.specs.declared.Told.{Told}
-use Rattle.failed_check.specs.declared.Told.TheVariants.{Readable, Refused}
 use Rattle.wrong_words.specs.Words.{layer_words, wrong_words}
 use Rattle.wanted_words.specs.Words.{wanted_words}
 use Rattle.finding_text.specs.Numbers.{shown_of, found, limit}
-use Rattle.finding_text.specs.declared.numbers.Shown.{Shown}
-use Rattle.finding_text.specs.declared.numbers.Shown.TheVariants as shown
 
 -- a number and the words before it, or nothing
-abbrev pub number_text : List ℕ → Shown → List ℕ
-number_text words shown.Nothing = []
-number_text words (shown.Number n) = words ++ decimal n
+abbrev pub number_text : List ℕ → Option ℕ → List ℕ
+number_text words None = []
+number_text words (Some n) = words ++ decimal n
 
 -- where: the byte and the layer
 unfoldable pub where_text : ℕ → ℕ → List ℕ
@@ -32,6 +28,6 @@ wrong_text d f =
     ∷ number_text (ascii ", found ") (shown_of (found reason) d f)
     ∷ [])
 
-abbrev pub finding_text : List ℕ → Told → List ℕ
-finding_text d Readable = ascii "readable"
-finding_text d (Refused f) = where_text f.check.byte f.refusal.place ++ wrong_text d f
+abbrev pub finding_text : List ℕ → Option Fault → List ℕ
+finding_text d None = ascii "readable"
+finding_text d (Some f) = where_text f.check.byte f.refusal.place ++ wrong_text d f

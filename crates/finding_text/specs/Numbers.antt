@@ -1,5 +1,5 @@
 -- The numbers that are told beside the words: what was there, and what was wanted where only the datagram has it.
-use Rattle.std.specs.Prelude.{ℕ, ◌+◌, ◌-◌, ◌%◌, List, eqb, length}
+use Rattle.std.specs.Prelude.{ℕ, ◌+◌, ◌-◌, ◌%◌, List, eqb, length, Option, Some, None}
 use Rattle.wire.specs.Fields.{byte_at, u16_at}
 use Rattle.refusal.specs.Check.{pick, start_of, preamble, root, framing, dmp}
 use Rattle.refusal.specs.declared.Reason.{Reason}
@@ -15,8 +15,6 @@ use Rattle.refusal.specs.declared.Room.TheVariants as room_in
 use Rattle.failed_check.specs.declared.Fault.{Fault}
 use Rattle.finding_text.specs.declared.numbers.Source.{Source}
 use Rattle.finding_text.specs.declared.numbers.Source.TheVariants as source
-use Rattle.finding_text.specs.declared.numbers.Shown.{Shown}
-use Rattle.finding_text.specs.declared.numbers.Shown.TheVariants as shown
 
 -- the twelve bits of a layer's length, by the layer's first byte
 abbrev pub length_at : List ℕ → ℕ → ℕ
@@ -34,17 +32,17 @@ abbrev pub head_at : ℕ → ℕ
 head_at place = pick (eqb place dmp) 3 6
 
 -- what a number is, by where it comes from
-unfoldable pub shown_of : Source → List ℕ → Fault → Shown
-shown_of source.Nowhere d f = shown.Nothing
-shown_of source.Value d f = shown.Number f.refusal.value
-shown_of source.Byte d f = shown.Number (byte_at d f.check.byte)
-shown_of source.Word d f = shown.Number (u16_at d f.check.byte)
-shown_of source.NextByte d f = shown.Number (byte_at d (f.check.byte + 1))
-shown_of source.WordBefore d f = shown.Number (u16_at d (f.check.byte - 2))
-shown_of source.Length d f = shown.Number (length_at d (start_of f.refusal.place))
-shown_of source.Room d f = shown.Number (room_at d f.refusal.place)
-shown_of source.RootRoom d f = shown.Number (room_at d root)
-shown_of source.Head d f = shown.Number (head_at f.refusal.place)
+unfoldable pub shown_of : Source → List ℕ → Fault → Option ℕ
+shown_of source.Nowhere d f = None
+shown_of source.Value d f = Some f.refusal.value
+shown_of source.Byte d f = Some (byte_at d f.check.byte)
+shown_of source.Word d f = Some (u16_at d f.check.byte)
+shown_of source.NextByte d f = Some (byte_at d (f.check.byte + 1))
+shown_of source.WordBefore d f = Some (u16_at d (f.check.byte - 2))
+shown_of source.Length d f = Some (length_at d (start_of f.refusal.place))
+shown_of source.Room d f = Some (room_at d f.refusal.place)
+shown_of source.RootRoom d f = Some (room_at d root)
+shown_of source.Head d f = Some (head_at f.refusal.place)
 
 -- what was there
 abbrev pub found_start : Start → Source

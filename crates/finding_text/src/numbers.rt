@@ -1,5 +1,5 @@
 // The numbers that are told beside the words.
-ghost use Rattle.std.specs.Prelude.{◌≡◌, ◌+◌, ◌-◌};
+ghost use Rattle.std.specs.Prelude.{◌≡◌, ◌+◌};
 ghost use Rattle.wire.specs.Fields.{byte_at};
 ghost use Rattle.refusal.specs.Check.{start_of};
 ghost use Rattle.finding_text.specs.Numbers.{length_at, room_at, head_at, shown_of, found_start, found_value, found_field, found as found_source, limit_start, limit_room, limit as limit_source};
@@ -30,24 +30,11 @@ pub enum Source {
     Head,
 }
 
-#[derive(Clone, Copy)]
-pub enum Shown {
-    Nothing,
-    Number(u64),
-}
-
 // Twelve bits of a layer's first two bytes.
 fn length_at(d: &[u8], at: usize) -> usize
     ensures { result ≡ length_at d.now at }
 {
     (wire::u16_at(d, at) % 0x1000) as usize
-}
-
-// What is left of a number, at least nothing.
-fn left_of(a: usize, b: usize) -> usize
-    ensures { result ≡ a - b }
-{
-    if a < b { 0 } else { a - b }
 }
 
 // The byte of a datagram at which a place starts.
@@ -70,10 +57,10 @@ fn room_at(d: &[u8], place: u8) -> usize
 {
     match place {
         refusal::PREAMBLE => d.len(),
-        refusal::ROOT => left_of(d.len(), PREAMBLE_LENGTH),
-        refusal::FRAMING => left_of(length_at(d, PREAMBLE_LENGTH), ROOT_LENGTH),
-        refusal::DMP => left_of(length_at(d, FRAMING_START), DATA_FRAMING_LENGTH),
-        _ => left_of(length_at(d, FRAMING_START), DISCOVERY_FRAMING_LENGTH),
+        refusal::ROOT => d.len().saturating_sub(PREAMBLE_LENGTH),
+        refusal::FRAMING => length_at(d, PREAMBLE_LENGTH).saturating_sub(ROOT_LENGTH),
+        refusal::DMP => length_at(d, FRAMING_START).saturating_sub(DATA_FRAMING_LENGTH),
+        _ => length_at(d, FRAMING_START).saturating_sub(DISCOVERY_FRAMING_LENGTH),
     }
 }
 
@@ -98,24 +85,25 @@ fn next_byte(d: &[u8], byte: usize) -> u8
     wire::byte_at(d, byte + 1)
 }
 
-pub(crate) fn resolve(source: Source, d: &[u8], fault: Fault) -> Shown
+#[tactic(auto, unfolding(crate::specs::Numbers::shown_of))]
+pub(crate) fn resolve(source: Source, d: &[u8], fault: Fault) -> Option<u64>
     ensures { result ≡ shown_of source d.now fault }
 {
-    let refusal = fault.refusal;
-    let check = fault.check;
+    let Fault { refusal, check } = fault;
     match source {
-        Source::Nowhere => Shown::Nothing,
-        Source::Value => Shown::Number(refusal.value as u64),
-        Source::Byte => Shown::Number(wire::byte_at(d, check.byte) as u64),
-        Source::Word => Shown::Number(wire::u16_at(d, check.byte) as u64),
-        Source::NextByte => Shown::Number(next_byte(d, check.byte) as u64),
-        Source::WordBefore => Shown::Number(
-            wire::u16_at(d, left_of(check.byte, E131_UNIVERSE_FIELD_LENGTH)) as u64,
-        ),
-        Source::Length => Shown::Number(length_at(d, start_of(refusal.place)) as u64),
-        Source::Room => Shown::Number(room_at(d, refusal.place) as u64),
-        Source::RootRoom => Shown::Number(room_at(d, refusal::ROOT) as u64),
-        Source::Head => Shown::Number(head_at(refusal.place)),
+        Source::Nowhere => None,
+        Source::Value => Some(refusal.value as u64),
+        Source::Byte => Some(wire::byte_at(d, check.byte) as u64),
+        Source::Word => Some(wire::u16_at(d, check.byte) as u64),
+        Source::NextByte => Some(next_byte(d, check.byte) as u64),
+        Source::WordBefore => {
+            let before = check.byte.saturating_sub(E131_UNIVERSE_FIELD_LENGTH);
+            Some(wire::u16_at(d, before) as u64)
+        }
+        Source::Length => Some(length_at(d, start_of(refusal.place)) as u64),
+        Source::Room => Some(room_at(d, refusal.place) as u64),
+        Source::RootRoom => Some(room_at(d, refusal::ROOT) as u64),
+        Source::Head => Some(head_at(refusal.place)),
     }
 }
 

@@ -1,7 +1,5 @@
 -- The whole text of a capture, by computation: a data packet, the same again, a synchronization packet, an empty entry. Assumes nothing.
-use Prim.Native.Nat.{ℕ}
-use mathlib.Core.Path.{◌≡◌, refl}
-use mathlib.Core.List.{List, [], ◌∷◌}
+use Rattle.std.proofs.Common.{ℕ, ◌≡◌, refl, List, [], ◌∷◌}
 use Rattle.refusal.specs.Check.{choose, reading, checked_of}
 use Rattle.wire.specs.Fields.{join, u16_at, u32_at}
 use Rattle.name.specs.Name.{zero_at}

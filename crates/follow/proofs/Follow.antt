@@ -1,13 +1,9 @@
 -- What the program has printed when it stops. Assumes nothing.
-use Prim.Native.Nat.{ℕ, ◌≤◌}
-use mathlib.Core.Path.{◌≡◌}
-use mathlib.Core.Bool.{false}
-use mathlib.Core.Logic.{◌⊎◌}
-use mathlib.Core.List.{List, [], ◌++◌}
-use lib.ListN.{length, take}
+use Rattle.std.proofs.Common.{ℕ, ◌≤◌, ◌≡◌, false, ◌⊎◌, List, [], ◌++◌, length, take, Err}
 use Rattle.capture.specs.declared.Ending.{Ending}
 use Rattle.capture_input.specs.Entries.{Because}
-use Rattle.capture_input.specs.declared.Next.TheVariants.{Stop}
+use Rattle.capture_input.specs.declared.Stop.TheVariants.{Ended}
+use Rattle.text.specs.declared.Text.{Text}
 use Rattle.turns.specs.Turn.{Telling}
 use Rattle.turns.specs.declared.State.{State}
 use Rattle.turns.specs.Run.{Moment, beginning, Turns, arrived_in, left_in, text_in, Unseen, Ran, BrokenOff, Accounted}
@@ -15,24 +11,25 @@ use Rattle.turns.proofs.Run.{ran}
 use Rattle.follow_rules.specs.Table.{cleared}
 use Rattle.follow.specs.Following.{following, follow_text}
 
--- with the table that `main` hands over
+-- with the table that `run` begins with
 abbrev telling : Telling
 telling = following (cleared 1024)
 
 -- the program ended as the system or the capture had it, and all text that left tells what became of the whole input
-abbrev Followed : (block out : List ℕ) (ms : List Moment) → Turns telling [] (beginning block out) ms → State → Type 0
+abbrev Followed : (block : List ℕ) (out : Text) (ms : List Moment) → Turns telling [] (beginning block out) ms → State → Type 0
 Followed block out ms t state =
     (e : Ending)
-    × Because (Stop e) state.heard.said
+    × Because (Err (Ended e)) state.unread.heard.said
     × ((rest : List ℕ) → Unseen e rest → left_in telling [] (beginning block out) ms t ≡ follow_text (arrived_in telling [] (beginning block out) ms t ++ rest))
 
 -- By the contract of `run`: all text that was put has left, but for what is still in the buffer; the bytes that arrived and that left are as
 -- many as the system brought and was handed; and the whole input was followed, or the program broke off.
-pub followed : (block out block' out' : List ℕ) (state : State) (r : Ran telling block out block' out' state) → 40000 ≤ length out → state.going ≡ false →
+pub followed : (block : List ℕ) (out : Text) (block' : List ℕ) (out' : Text) (state : State) (r : Ran telling block out block' out' state) →
+    40000 ≤ length out.bytes.now → state.going ≡ false →
     let m = beginning block out in
     let ms = r.2.0 in
     let t = r.2.1 in
-    (left_in telling [] m ms t ++ take state.at out' ≡ text_in telling [] m ms t)
+    (left_in telling [] m ms t ++ take out'.len out'.bytes.now ≡ text_in telling [] m ms t)
     × Accounted telling block out ms t state
     × (Followed block out ms t state ⊎ BrokenOff state)
 followed = ran telling

@@ -1,4 +1,4 @@
 pub mod Fits
-pub mod Standing
+pub mod Held
 pub mod Follow
 pub mod Examples

@@ -1,5 +1,5 @@
 -- What becomes of a datagram, by what is heard of it, the totals so far, and what the table has of its source. Rule by rule, as request 02 has them.
-use Rattle.std.specs.Prelude.{ℕ, List, true, false}
+use Rattle.std.specs.Prelude.{ℕ, List, Option, Some, None, true, ltb}
 use Rattle.refusal.specs.Check.{pick, choose, refusal, nowhere}
 use Rattle.sequence.specs.Sequence.{late_of}
 use Rattle.follow_rules.specs.declared.Entry.{Entry}
@@ -11,16 +11,17 @@ use Rattle.follow_rules.specs.declared.Answer.{Answer}
 use Rattle.follow_rules.specs.declared.Answer.TheVariants.{Accepted, Discarded, Refused, NotData, Unreadable}
 use Rattle.follow_rules.specs.declared.Spot.{Spot}
 use Rattle.follow_rules.specs.declared.Spot.TheVariants.{Ours, Free, Neither}
+use Rattle.follow_rules.specs.declared.Stored.{Stored}
 use Rattle.follow_rules.specs.declared.Decision.{Decision}
 use Rattle.follow_rules.specs.Totals.{full, accept_of, discard_of, refuse_of}
 use Rattle.follow_rules.specs.Table.{free_entry}
 
 -- the table stays; an entry is stored
 abbrev pub stay_of : Totals → Answer → Decision
-stay_of n a = record { stores = false; at = 0; entry = free_entry; followed = record { answer = a; totals = n } }
+stay_of n a = record { stored = None; followed = record { answer = a; totals = n } }
 
 abbrev pub store_of : ℕ → Entry → Totals → Answer → Decision
-store_of i e n a = record { stores = true; at = i; entry = e; followed = record { answer = a; totals = n } }
+store_of i e n a = record { stored = Some (record { at = i; entry = e }); followed = record { answer = a; totals = n } }
 
 -- an accepted packet stores its number; with the terminated bit it leaves its entry free and zeroed
 abbrev pub kept_of : List ℕ → Sent → Entry
@@ -45,3 +46,8 @@ abbrev pub decision_of : Totals → List ℕ → Kind → Spot → Decision
 decision_of n cid (kind.Unreadable r) p = stay_of n (Unreadable r)
 decision_of n cid kind.Other p = stay_of n NotData
 decision_of n cid (kind.Data s) p = data_of n cid s p
+
+-- what is stored in a table of so many entries
+abbrev pub stored_within : Option Stored → ℕ → Option Stored
+stored_within None len = None
+stored_within (Some s) len = pick (ltb s.at len) (Some s) None

@@ -1,6 +1,6 @@
 -- One look at an entry at a time, as a walk along a table does it. Nobody has to believe this: that such looks find what `spot_of` says is
 -- `scan_spots` of crate follower.
-use Rattle.std.specs.Prelude.{ℕ, List, Bool, true, false, ltb}
+use Rattle.std.specs.Prelude.{ℕ, List, Bool, true, false}
 use Rattle.refusal.specs.Check.{pick}
 use Rattle.follow_rules.specs.declared.Entry.{Entry}
 use Rattle.follow_rules.specs.declared.Kind.{Kind}
@@ -28,11 +28,11 @@ spared Neither i = Free i
 abbrev pub look_of : Spot → ℕ → Entry → List ℕ → Kind → Spot
 look_of p i e cid k = pick (ours_of cid k e) (Ours i e.last) (pick e.used p (spared p i))
 
--- whether the search goes on, and whether there is an entry to look at
+-- whether the search goes on: after what was found, and of what is heard
 abbrev pub seeks : Spot → Bool
 seeks (Ours j l) = false
 seeks (Free j) = true
 seeks Neither = true
 
-abbrev pub looks_of : Spot → Kind → ℕ → ℕ → Bool
-looks_of p k i len = pick (is_data k) (pick (seeks p) (ltb i len) false) false
+abbrev pub seeks_of : Spot → Kind → Bool
+seeks_of p k = pick (is_data k) (seeks p) false

@@ -2,24 +2,25 @@
 // of sources has of its source.
 #![tactic(auto)]
 
-ghost use Rattle.std.specs.Prelude.{◌≡◌, false, ltb};
-ghost use Rattle.refusal.specs.Check.{pick, outcome};
+ghost use Rattle.std.specs.Prelude.{◌≡◌};
+ghost use Rattle.refusal.specs.Check.{outcome};
 ghost use Rattle.refusal.proofs.Tests.{Fails};
 ghost use Rattle.follow_rules.specs.Totals.{zero_totals, full, accept_of, discard_of, refuse_of};
 ghost use Rattle.follow_rules.specs.Table.{free_entry, ours};
-ghost use Rattle.follow_rules.specs.Walk.{ours_of, is_data, looks_of, look_of};
-ghost use Rattle.follow_rules.specs.Rules.{kept_of, stay_of, accepted_at, counted_of, data_of, decision_of};
+ghost use Rattle.follow_rules.specs.Walk.{ours_of, seeks_of, look_of};
+ghost use Rattle.follow_rules.specs.Rules.{kept_of, stay_of, accepted_at, counted_of, data_of, decision_of, stored_within};
 ghost use Rattle.follow_rules.specs.declared.Spot.TheVariants.{Neither};
 
 use refusal::{NOWHERE, Refusal};
 
-// The follower's own refusals.
+// The follower's own refusals, by the numbers of request 02, which lines tell.
 pub const TOTAL_AT_LARGEST: u8 = 40;
 
 pub const NO_FREE_ENTRY: u8 = 41;
 
-// A table's entry for a source, which is a CID and a universe: its last number. A free entry may hold anything.
-#[derive(Clone, Copy)]
+// A table's entry for a source, which is a CID and a universe: its last number. A free entry may hold anything: document
+// 01 asks for structs with a used mark, so `used` is a field and not an Option.
+#[derive(Clone, Copy, Default)]
 pub struct Entry {
     pub cid: [u8; 16],
     pub universe: u16,
@@ -27,7 +28,7 @@ pub struct Entry {
     pub used: bool,
 }
 
-// What is followed of a data packet; the CID stands beside it.
+// What is followed of a data packet. The CID stands beside it in `Heard`, since `listen` tells that of every datagram.
 #[derive(Clone, Copy)]
 pub struct Sent {
     pub universe: u16,
@@ -59,8 +60,9 @@ pub enum Answer {
     Unreadable(Refusal),
 }
 
-// How many data packets were accepted, discarded, and refused for want of room.
-#[derive(Clone, Copy)]
+// How many data packets were accepted, discarded, and refused for want of room. Taken and given back by value, as
+// document 01 has it.
+#[derive(Clone, Copy, Default)]
 pub struct Totals {
     pub accepted: u64,
     pub discarded: u64,
@@ -82,12 +84,17 @@ pub enum Spot {
     Neither,
 }
 
-// What is to be done: whether an entry is stored, where and which; and what is given back.
+// An entry, and where in the table it is stored.
 #[derive(Clone, Copy)]
-pub struct Decision {
-    pub stores: bool,
+pub struct Stored {
     pub at: usize,
     pub entry: Entry,
+}
+
+// What is to be done: what is stored, if anything is; and what is given back.
+#[derive(Clone, Copy)]
+pub struct Decision {
+    pub stored: Option<Stored>,
     pub followed: Followed,
 }
 
@@ -96,12 +103,14 @@ impl Entry {
     pub fn free() -> Entry
         ensures { result ≡ free_entry }
     {
-        Entry {
-            cid: [0; 16],
-            universe: 0,
-            last: 0,
-            used: false,
-        }
+        Entry::default()
+    }
+
+    // Whether a source uses the entry.
+    fn is_of(self, cid: [u8; 16], universe: u16) -> bool
+        ensures { result ≡ ours cid universe self }
+    {
+        self.used && self.universe == universe && cid::same(self.cid, cid)
     }
 }
 
@@ -109,24 +118,14 @@ impl Totals {
     pub fn zero() -> Totals
         ensures { result ≡ zero_totals }
     {
-        Totals {
-            accepted: 0,
-            discarded: 0,
-            room_refused: 0,
-        }
+        Totals::default()
     }
 
     // Whether any total is at its largest number.
     pub fn full(self) -> bool
         ensures { result ≡ outcome (full self) }
     {
-        if self.accepted == u64::MAX {
-            return true;
-        }
-        if self.discarded == u64::MAX {
-            return true;
-        }
-        self.room_refused == u64::MAX
+        self.accepted == u64::MAX || self.discarded == u64::MAX || self.room_refused == u64::MAX
     }
 
     fn accept(self) -> Totals
@@ -135,8 +134,7 @@ impl Totals {
     {
         Totals {
             accepted: self.accepted + 1,
-            discarded: self.discarded,
-            room_refused: self.room_refused,
+            ..self
         }
     }
 
@@ -145,9 +143,8 @@ impl Totals {
         ensures { result ≡ discard_of self }
     {
         Totals {
-            accepted: self.accepted,
             discarded: self.discarded + 1,
-            room_refused: self.room_refused,
+            ..self
         }
     }
 
@@ -156,70 +153,31 @@ impl Totals {
         ensures { result ≡ refuse_of self }
     {
         Totals {
-            accepted: self.accepted,
-            discarded: self.discarded,
             room_refused: self.room_refused + 1,
+            ..self
         }
     }
 }
 
-// Whether an entry is used by a source.
-fn is_of(entry: Entry, cid: [u8; 16], universe: u16) -> bool
-    ensures { result ≡ ours cid universe entry }
-{
-    if entry.used {
-        if entry.universe != universe {
-            return false;
-        }
-        let theirs = entry.cid;
-        return cid::same(theirs, cid);
-    }
-    false
-}
-
+// Whether the entry is one of the source that is heard.
 fn is_ours(entry: Entry, heard: Heard) -> bool
     ensures { result ≡ ours_of heard.cid heard.kind entry }
 {
-    let cid = heard.cid;
-    let kind = heard.kind;
-    match kind {
-        Kind::Data(sent) => is_of(entry, cid, sent.universe),
-        Kind::Other => false,
-        Kind::Unreadable(_) => false,
-    }
+    matches!(heard.kind, Kind::Data(sent) if entry.is_of(heard.cid, sent.universe))
 }
 
-// Nothing is found yet. A call, for the walk that looks only calls.
+// Nothing is found yet. It stays a call because docs/OPEN.md names it among the public ones.
 pub fn unseen() -> Spot
     ensures { result ≡ Neither }
 {
     Spot::Neither
 }
 
-fn is_data(heard: Heard) -> bool
-    ensures { result ≡ is_data heard.kind }
+// Whether the search goes on: the source's own entry ends it, and for what is no data packet there is none.
+pub fn seeks(spot: Spot, heard: Heard) -> bool
+    ensures { result ≡ seeks_of spot heard.kind }
 {
-    let kind = heard.kind;
-    match kind {
-        Kind::Data(_) => true,
-        Kind::Other => false,
-        Kind::Unreadable(_) => false,
-    }
-}
-
-// Whether entry `at` of a table of `len` entries is to be looked at: the source's own entry ends the search, and for
-// what is no data packet there is none.
-pub fn looks(spot: Spot, heard: Heard, at: usize, len: usize) -> bool
-    ensures { result ≡ looks_of spot heard.kind at len }
-{
-    if is_data(heard) {
-        return match spot {
-            Spot::Ours { at: _, last: _ } => false,
-            Spot::Free { at: _ } => at < len,
-            Spot::Neither => at < len,
-        };
-    }
-    false
+    matches!(heard.kind, Kind::Data(_)) && !matches!(spot, Spot::Ours { .. })
 }
 
 // What a table has of a packet's source, once entry `at` is looked at, too.
@@ -236,9 +194,8 @@ pub fn look(spot: Spot, at: usize, entry: Entry, heard: Heard) -> Spot
         return spot;
     }
     match spot {
-        Spot::Ours { at: _, last: _ } => spot,
-        Spot::Free { at: _ } => spot,
         Spot::Neither => Spot::Free { at },
+        _ => spot,
     }
 }
 
@@ -262,9 +219,7 @@ fn stay(totals: Totals, answer: Answer) -> Decision
     ensures { result ≡ stay_of totals answer }
 {
     Decision {
-        stores: false,
-        at: 0,
-        entry: Entry::free(),
+        stored: None,
         followed: Followed { answer, totals },
     }
 }
@@ -275,9 +230,10 @@ fn accept_at(at: usize, totals: Totals, cid: [u8; 16], sent: Sent) -> Decision
     ensures { result ≡ accepted_at at totals cid sent }
 {
     Decision {
-        stores: true,
-        at,
-        entry: kept(cid, sent),
+        stored: Some(Stored {
+            at,
+            entry: kept(cid, sent),
+        }),
         followed: Followed {
             answer: Answer::Accepted,
             totals: totals.accept(),
@@ -291,13 +247,10 @@ fn count(totals: Totals, cid: [u8; 16], sent: Sent, spot: Spot) -> Decision
     ensures { result ≡ counted_of totals cid sent spot }
 {
     match spot {
-        Spot::Ours { at, last } => {
-            if sequence::late(sent.sequence_number, last) {
-                return stay(totals.discard(), Answer::Discarded);
-            }
-            accept_at(at, totals, cid, sent)
+        Spot::Ours { last, .. } if sequence::late(sent.sequence_number, last) => {
+            stay(totals.discard(), Answer::Discarded)
         }
-        Spot::Free { at } => accept_at(at, totals, cid, sent),
+        Spot::Ours { at, .. } | Spot::Free { at } => accept_at(at, totals, cid, sent),
         Spot::Neither => stay(
             totals.refuse(),
             Answer::Refused(Refusal::new(NO_FREE_ENTRY, NOWHERE, 0)),
@@ -305,6 +258,7 @@ fn count(totals: Totals, cid: [u8; 16], sent: Sent, spot: Spot) -> Decision
     }
 }
 
+#[tactic(auto, unfolding(refusal::specs::Check::choose))]
 fn decide_data(totals: Totals, cid: [u8; 16], sent: Sent, spot: Spot) -> Decision
     ensures { result ≡ data_of totals cid sent spot }
 {
@@ -321,22 +275,16 @@ fn decide_data(totals: Totals, cid: [u8; 16], sent: Sent, spot: Spot) -> Decisio
 pub fn decide(totals: Totals, heard: Heard, spot: Spot) -> Decision
     ensures { result ≡ decision_of totals heard.cid heard.kind spot }
 {
-    let cid = heard.cid;
-    let kind = heard.kind;
-    match kind {
-        Kind::Data(sent) => decide_data(totals, cid, sent, spot),
+    match heard.kind {
+        Kind::Data(sent) => decide_data(totals, heard.cid, sent, spot),
         Kind::Other => stay(totals, Answer::NotData),
         Kind::Unreadable(r) => stay(totals, Answer::Unreadable(r)),
     }
 }
 
-// Whether an entry is stored in a table of `len` entries. A decision may name any number: whoever carries it out asks
-// first.
-pub fn stores_within(decision: Decision, len: usize) -> bool
-    ensures { result ≡ pick decision.stores (ltb decision.at len) false }
+// What is stored in a table of `len` entries. A decision may name any number: whoever carries it out asks first.
+pub fn stores_within(decision: Decision, len: usize) -> Option<Stored>
+    ensures { result ≡ stored_within decision.stored len }
 {
-    if decision.stores {
-        return decision.at < len;
-    }
-    false
+    decision.stored.filter(|stored| stored.at < len)
 }

@@ -1,14 +1,10 @@
 -- Isolation: the answers to a source's packets are those of its own small machine, whoever else sends. Assumes nothing.
-use Prim.Native.Nat.{ℕ, zero, suc}
-use mathlib.Core.Path.{◌≡◌, refl, sym, ap, ap₂, ◌∙◌}
-use mathlib.Core.List.{List, [], ◌∷◌, ◌++◌}
-use mathlib.Core.Bool.{Bool, true, false}
-use native.Mathlib.Omega.{arith}
-use lib.ListN.{set}
+use Rattle.std.proofs.Common.{ℕ, zero, suc, ◌≡◌, refl, sym, ap, ap₂, ◌∙◌, List, [], ◌∷◌, ◌++◌, Bool, true, false, arith, set}
 use Rattle.refusal.specs.Check.{pick}
 use Rattle.refusal.proofs.Tests.{never}
 use Rattle.packet.specs.Packet.{reading_of}
 use Rattle.packet.specs.declared.DataRecord.{DataRecord}
+use Rattle.framing.specs.declared.DataFields.{DataFields}
 use Rattle.packet.specs.declared.Packet.{Packet}
 use Rattle.packet.specs.declared.Packet.TheVariants as packet
 use Rattle.follow_rules.specs.declared.Entry.{Entry}
@@ -81,7 +77,7 @@ other_step s t n d elsewhere = by (follow_of t n d) (each_case t n d)
     cid : List ℕ
     cid = (reading_of d).cid
 
-    theirs : (x : DataRecord) → (reading_of d).packet ≡ packet.Data x → is_same_source cid x.fields.universe s.cid s.universe ≡ false
+    theirs : (x : DataRecord DataFields) → (reading_of d).packet ≡ packet.Data x → is_same_source cid x.fields.universe s.cid s.universe ≡ false
     theirs x e = ap (is_from s cid) (sym e) ∙ elsewhere
 
     by : (r : After) → Case t n cid (reading_of d).packet r → mine s r.table ≡ mine s t
@@ -99,7 +95,7 @@ other_step s t n d elsewhere = by (follow_of t n d) (each_case t n d)
 
 -- The source's own packet: what it is answered, and what is known of the source then.
 record Agrees (s : Source) (k : Known) (p : Packet) (r : After) : Type 0 where
-  packet_is : DataRecord
+  packet_is : DataRecord DataFields
   same : p ≡ packet.Data packet_is
   answered : r.followed.answer ≡ known_answer k (sent_in packet_is.fields)
   known : mine s r.table ≡ listed (known_next k (sent_in packet_is.fields))
@@ -148,7 +144,7 @@ own_step s t n d k here is = by (follow_of t n d) (each_case t n d)
     cid : List ℕ
     cid = (reading_of d).cid
 
-    source : (x : DataRecord) → (reading_of d).packet ≡ packet.Data x → (cid ≡ s.cid) × (x.fields.universe ≡ s.universe)
+    source : (x : DataRecord DataFields) → (reading_of d).packet ≡ packet.Data x → (cid ≡ s.cid) × (x.fields.universe ≡ s.universe)
     source x e = same_source cid s.cid x.fields.universe s.universe (ap (is_from s cid) (sym e) ∙ here)
 
     not_other : {A : Type 0} (p : Packet) → is_other_packet p ≡ true → is_from s cid p ≡ true → A

@@ -1,11 +1,6 @@
 -- The totals: each is the number of its answers, and together they are the data packets read, those refused 40 left out, at every point of a
 -- capture. Assumes nothing.
-use Prim.Native.Nat.{ℕ, zero, suc, ◌+◌}
-use mathlib.Core.Path.{◌≡◌, refl, ap}
-use mathlib.Core.List.{List, [], ◌∷◌}
-use mathlib.Core.Bool.{true}
-use native.Mathlib.Omega.{arith}
-use lib.ListN.{take}
+use Rattle.std.proofs.Common.{ℕ, zero, suc, ◌+◌, ◌≡◌, refl, ap, List, [], ◌∷◌, true, arith, take}
 use Rattle.refusal.specs.Check.{pick}
 use Rattle.refusal.proofs.Tests.{never}
 use Rattle.packet.specs.Packet.{reading_of}

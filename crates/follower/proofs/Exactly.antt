@@ -1,18 +1,13 @@
 -- Refusals 40 and 41 are told exactly then, in that order, after reading's own; what does not move; where an accepted packet is stored; and that
 -- freed room is used. Of every table, all totals and every datagram. Assumes nothing.
-use Prim.Native.Nat.{ℕ, suc, ◌+◌, ◌<◌}
-use mathlib.Core.Path.{◌≡◌, refl, sym, ap, subst, ◌∙◌}
-use mathlib.Core.List.{List}
-use mathlib.Core.Bool.{Bool, true, false}
-use mathlib.Core.Logic.{◌⊎◌, inl, inr}
-use native.Mathlib.Omega.{arith}
-use lib.ListN.{length, set, take, drop}
-use lib.Seq.{set_split}
+use Rattle.std.proofs.Common.{ℕ, suc, ◌+◌, ◌<◌, ◌≡◌, refl, sym, ap, subst, ◌∙◌, List, Bool, true, false, ◌⊎◌, inl, inr, arith, length, set, take, drop}
+use Rattle.std.proofs.lemmas.List.{set_split}
 use Rattle.refusal.specs.Check.{pick, refusal, nowhere}
 use Rattle.refusal.specs.declared.Refusal.{Refusal}
 use Rattle.refusal.proofs.Tests.{Holds, Fails, clash, never}
 use Rattle.packet.specs.Packet.{reading_of}
 use Rattle.packet.specs.declared.DataRecord.{DataRecord}
+use Rattle.framing.specs.declared.DataFields.{DataFields}
 use Rattle.packet.specs.declared.Packet.{Packet}
 use Rattle.packet.specs.declared.Packet.TheVariants as packet
 use Rattle.follow_rules.specs.declared.Entry.{Entry}
@@ -54,10 +49,10 @@ refusal_in (packet.Data x) = refusal 0 0 0
 refusal_in (packet.Synchronization x) = refusal 0 0 0
 refusal_in (packet.Discovery x) = refusal 0 0 0
 
-data_in_lem : (x w : DataRecord) → packet.Data x ≡ packet.Data w → x ≡ w
+data_in_lem : (x w : DataRecord DataFields) → packet.Data x ≡ packet.Data w → x ≡ w
 data_in_lem x w e = ap (record_in x) e
   where
-    record_in : DataRecord → Packet → DataRecord
+    record_in : DataRecord DataFields → Packet → DataRecord DataFields
     record_in y (packet.Data z) = z
     record_in y (packet.Synchronization z) = y
     record_in y (packet.Discovery z) = y
@@ -105,10 +100,10 @@ module _ (t : List Entry) (n : Totals) (d : List ℕ) where
       by (packet.Discovery x) o k = never k
       by (packet.Refused r) o k = never o
 
-  not_this : {A : Type 0} (x : DataRecord) → read ≡ packet.Data x → is_data_packet read ≡ false → A
+  not_this : {A : Type 0} (x : DataRecord DataFields) → read ≡ packet.Data x → is_data_packet read ≡ false → A
   not_this x e none = never (sym none ∙ ap is_data_packet e)
 
-  theirs : (x : DataRecord) → read ≡ packet.Data x → its_own cid read ≡ ours cid x.fields.universe
+  theirs : (x : DataRecord DataFields) → read ≡ packet.Data x → its_own cid read ≡ ours cid x.fields.universe
   theirs x e = ap (its_own cid) e
 
   -- Reading's own refusal comes first, and nothing moves.
@@ -250,7 +245,7 @@ module _ (t : List Entry) (n : Totals) (d : List ℕ) where
       by _ (no_room x e f k m) g = refl
 
   -- An accepted packet is stored in its source's first entry, or else in the first free one; with the terminated bit it leaves that one free and zeroed.
-  pub stored : (x : DataRecord) → read ≡ packet.Data x → answer ≡ Accepted → (i : ℕ) × StoredAt (ours cid x.fields.universe) t i × ((follow_of t n d).table ≡ set t i (kept_of cid (sent_in x.fields)))
+  pub stored : (x : DataRecord DataFields) → read ≡ packet.Data x → answer ≡ Accepted → (i : ℕ) × StoredAt (ours cid x.fields.universe) t i × ((follow_of t n d).table ≡ set t i (kept_of cid (sent_in x.fields)))
   stored w is = by_case (λ r. r.followed.answer ≡ Accepted → (i : ℕ) × StoredAt (ours cid w.fields.universe) t i × (r.table ≡ set t i (kept_of cid (sent_in w.fields)))) by
     where
       by : (r : After) → Case t n cid read r → r.followed.answer ≡ Accepted → (i : ℕ) × StoredAt (ours cid w.fields.universe) t i × (r.table ≡ set t i (kept_of cid (sent_in w.fields)))
@@ -263,7 +258,7 @@ module _ (t : List Entry) (n : Totals) (d : List ℕ) where
       by _ (no_room x e f k m) g = absurd (omega (arith, ap code_of g))
 
 -- an accepted packet with the terminated bit leaves its entry free and zeroed
-pub freed : (t : List Entry) (n : Totals) (d : List ℕ) (x : DataRecord) → (reading_of d).packet ≡ packet.Data x → x.fields.stream_terminated ≡ true →
+pub freed : (t : List Entry) (n : Totals) (d : List ℕ) (x : DataRecord DataFields) → (reading_of d).packet ≡ packet.Data x → x.fields.stream_terminated ≡ true →
     (follow_of t n d).followed.answer ≡ Accepted → (i : ℕ) × StoredAt (ours (reading_of d).cid x.fields.universe) t i × ((follow_of t n d).table ≡ set t i free_entry)
 freed t n d x is ends g =
     let (i, at, table) = stored t n d x is g in
@@ -271,7 +266,7 @@ freed t n d x is ends g =
     (i, at, table ∙ ap (λ (o : Bool). set t i (pick o free_entry sent)) ends)
 
 -- and that room is used: in the table that it leaves no datagram is refused 41
-pub freed_used : (t : List Entry) (n : Totals) (d : List ℕ) (x : DataRecord) → (reading_of d).packet ≡ packet.Data x → x.fields.stream_terminated ≡ true →
+pub freed_used : (t : List Entry) (n : Totals) (d : List ℕ) (x : DataRecord DataFields) → (reading_of d).packet ≡ packet.Data x → x.fields.stream_terminated ≡ true →
     (follow_of t n d).followed.answer ≡ Accepted → (m : Totals) (next : List ℕ) → (follow_of (follow_of t n d).table m next).followed.answer ≡ refused41 → ⊥
 freed_used t n d x is ends g m next e =
     let (i, at, table) = freed t n d x is ends g in

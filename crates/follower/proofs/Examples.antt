@@ -1,9 +1,5 @@
 -- Captures and tables run through the definitions, by computation. Assumes nothing.
-use Prim.Native.Nat.{ℕ}
-use mathlib.Core.Path.{◌≡◌, refl}
-use mathlib.Core.List.{List, [], ◌∷◌, map}
-use mathlib.Core.Bool.{true}
-use lib.ListN.{replicate}
+use Rattle.std.proofs.Common.{ℕ, ◌≡◌, refl, List, [], ◌∷◌, map, true, replicate}
 use Rattle.refusal.specs.Check.{choose, reading, checked_of, refusal, nowhere}
 use Rattle.wire.specs.Fields.{u16_at, u32_at}
 use Rattle.name.specs.Name.{zero_at}

@@ -1,11 +1,6 @@
 -- The first entry that a test takes: the entries before it, itself, and those behind it; and a table where there is none. Assumes nothing.
-use Prim.Native.Nat.{ℕ, suc, ◌<◌}
-use mathlib.Core.Path.{◌≡◌, refl, sym, ap, ◌∙◌}
-use mathlib.Core.List.{List, [], ◌∷◌, ◌++◌}
-use mathlib.Core.Bool.{Bool, true, false}
-use native.Mathlib.Omega.{arith}
-use lib.ListN.{length, set, length-append}
-use lib.Seq.{set_at}
+use Rattle.std.proofs.Common.{ℕ, suc, ◌<◌, ◌≡◌, refl, sym, ap, ◌∙◌, List, [], ◌∷◌, ◌++◌, Bool, true, false, arith, length, set, length-append}
+use Rattle.std.proofs.lemmas.List.{set_at}
 use Rattle.refusal.specs.Check.{pick}
 use Rattle.refusal.proofs.Tests.{never}
 use Rattle.follow_rules.specs.declared.Entry.{Entry}

@@ -1,10 +1,5 @@
 -- Whose an entry is, and whose a packet: equal bytes and numbers. Assumes nothing.
-use Prim.Native.Nat.{ℕ}
-use mathlib.Core.Path.{◌≡◌, refl, sym, ◌∙◌}
-use mathlib.Core.List.{List}
-use mathlib.Core.Bool.{Bool, true, false, not}
-use borrow.Author.Tests.{eqb-true, eq-eqb}
-use lib.Dec.{eqb}
+use Rattle.std.proofs.Common.{ℕ, ◌≡◌, refl, sym, ◌∙◌, List, Bool, true, false, not, eqb-true, eq-eqb, eqb}
 use Rattle.refusal.specs.Check.{pick, outcome}
 use Rattle.refusal.proofs.Tests.{never, holds, decided}
 use Rattle.cid.specs.Same.{same_cid}

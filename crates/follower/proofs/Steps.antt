@@ -1,14 +1,11 @@
 -- What a datagram does, case by case: the rules with what the table has. Assumes nothing.
-use Prim.Native.Nat.{ℕ}
-use mathlib.Core.Path.{◌≡◌, refl, subst}
-use mathlib.Core.List.{List}
-use mathlib.Core.Bool.{Bool, true, false}
-use lib.ListN.{set}
+use Rattle.std.proofs.Common.{ℕ, ◌≡◌, refl, subst, List, Bool, true, false, set}
 use Rattle.refusal.specs.Check.{pick, refusal, nowhere}
 use Rattle.refusal.specs.declared.Refusal.{Refusal}
 use Rattle.refusal.proofs.Tests.{Holds, Fails, decide, chosen, passed_over}
 use Rattle.packet.specs.Packet.{reading_of}
 use Rattle.packet.specs.declared.DataRecord.{DataRecord}
+use Rattle.framing.specs.declared.DataFields.{DataFields}
 use Rattle.packet.specs.declared.Packet.{Packet}
 use Rattle.packet.specs.declared.Packet.TheVariants as packet
 use Rattle.sequence.specs.Sequence.{late_of}
@@ -29,10 +26,10 @@ given t a n = after t (record { answer = a; totals = n })
 
 -- of what a datagram is read as, the CID and the packet
 module _ (t : List Entry) (n : Totals) (cid : List ℕ) (p : Packet) where
-  abbrev own : DataRecord → Entry → Bool
+  abbrev own : DataRecord DataFields → Entry → Bool
   own x = ours cid x.fields.universe
 
-  abbrev late : DataRecord → Entry → Bool
+  abbrev late : DataRecord DataFields → Entry → Bool
   late x e = late_of x.fields.sequence_number e.last
 
   -- The cases: a refusal of reading, another packet; and of a data packet 40; late; accepted by the source's first entry; accepted into the first
@@ -40,20 +37,20 @@ module _ (t : List Entry) (n : Totals) (cid : List ℕ) (p : Packet) where
   pub data Case : After → Type 0 where
     unread : (r : Refusal) → p ≡ packet.Refused r → Case (given t (Unreadable r) n)
     other : is_other_packet p ≡ true → Case (given t NotData n)
-    at_largest : (x : DataRecord) → p ≡ packet.Data x → Holds (full n) → Case (given t (Refused (refusal 40 nowhere 0)) n)
-    discarded : (x : DataRecord) → p ≡ packet.Data x → Fails (full n) → (i : ℕ) (e : Entry) → Around (own x) t i e → late x e ≡ true →
+    at_largest : (x : DataRecord DataFields) → p ≡ packet.Data x → Holds (full n) → Case (given t (Refused (refusal 40 nowhere 0)) n)
+    discarded : (x : DataRecord DataFields) → p ≡ packet.Data x → Fails (full n) → (i : ℕ) (e : Entry) → Around (own x) t i e → late x e ≡ true →
         Case (given t Discarded (discard_of n))
-    accepted : (x : DataRecord) → p ≡ packet.Data x → Fails (full n) → (i : ℕ) (e : Entry) → Around (own x) t i e → late x e ≡ false →
+    accepted : (x : DataRecord DataFields) → p ≡ packet.Data x → Fails (full n) → (i : ℕ) (e : Entry) → Around (own x) t i e → late x e ≡ false →
         Case (given (set t i (kept_of cid (sent_in x.fields))) Accepted (accept_of n))
-    taken_in : (x : DataRecord) → p ≡ packet.Data x → Fails (full n) → Lacks (own x) t → (i : ℕ) (e : Entry) → Around free t i e →
+    taken_in : (x : DataRecord DataFields) → p ≡ packet.Data x → Fails (full n) → Lacks (own x) t → (i : ℕ) (e : Entry) → Around free t i e →
         Case (given (set t i (kept_of cid (sent_in x.fields))) Accepted (accept_of n))
-    no_room : (x : DataRecord) → p ≡ packet.Data x → Fails (full n) → Lacks (own x) t → Lacks free t →
+    no_room : (x : DataRecord DataFields) → p ≡ packet.Data x → Fails (full n) → Lacks (own x) t → Lacks free t →
         Case (given t (Refused (refusal 41 nowhere 0)) (refuse_of n))
 
   abbrev did : Decision → After
   did d = after (carried_out t d) d.followed
 
-  counted_case : (x : DataRecord) → p ≡ packet.Data x → Fails (full n) → (first-own spare : First) → first (own x) t ≡ first-own → first free t ≡ spare →
+  counted_case : (x : DataRecord DataFields) → p ≡ packet.Data x → Fails (full n) → (first-own spare : First) → first (own x) t ≡ first-own → first free t ≡ spare →
       Case (did (counted_of n cid (sent_in x.fields) (found first-own spare)))
   counted_case x k f (first_at i e) spare is has = by (late x e) refl
     where

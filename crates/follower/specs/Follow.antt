@@ -1,6 +1,5 @@
 -- What a datagram does to a table of sources and to the totals, and what it is answered.
-use Rattle.std.specs.Prelude.{ℕ, List, set}
-use Rattle.refusal.specs.Check.{pick}
+use Rattle.std.specs.Prelude.{ℕ, List, Option, Some, None, set}
 use Rattle.framing.specs.declared.DataFields.{DataFields}
 use Rattle.packet.specs.Packet.{reading_of}
 use Rattle.packet.specs.declared.Packet.{Packet}
@@ -12,6 +11,7 @@ use Rattle.follow_rules.specs.declared.Kind.TheVariants as kind
 use Rattle.follow_rules.specs.declared.Heard.{Heard}
 use Rattle.follow_rules.specs.declared.Totals.{Totals}
 use Rattle.follow_rules.specs.declared.Followed.{Followed}
+use Rattle.follow_rules.specs.declared.Stored.{Stored}
 use Rattle.follow_rules.specs.declared.Decision.{Decision}
 use Rattle.follow_rules.specs.Table.{spot_of}
 use Rattle.follow_rules.specs.Rules.{decision_of}
@@ -34,8 +34,12 @@ unfoldable pub heard_of : List ℕ → Heard
 heard_of d = record { cid = (reading_of d).cid; kind = kind_in (reading_of d).packet }
 
 -- the table once a decision is carried out
+abbrev pub with_stored : List Entry → Option Stored → List Entry
+with_stored t None = t
+with_stored t (Some s) = set t s.at s.entry
+
 abbrev pub carried_out : List Entry → Decision → List Entry
-carried_out t d = pick d.stores (set t d.at d.entry) t
+carried_out t d = with_stored t d.stored
 
 -- the table afterwards, and what is given back
 pub record After : Type 0 where

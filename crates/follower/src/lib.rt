@@ -10,49 +10,35 @@ use follow_rules::{Decision, Entry, Followed, Heard, Kind, Sent, Spot, Totals};
 use packet::Packet;
 
 // What the follower hears of a datagram.
+#[tactic(auto, unfolding(crate::specs::Follow::heard_of))]
 pub fn listen(datagram: &[u8]) -> Heard
     ensures { result ≡ heard_of datagram.now }
 {
     let reading = packet::parse(datagram);
     let cid = reading.cid;
-    let packet = reading.packet;
-    match packet {
-        Packet::Data(x) => {
-            let fields = x.fields;
-            let sent = Sent {
-                universe: fields.universe,
-                sequence_number: fields.sequence_number,
-                stream_terminated: fields.stream_terminated,
-            };
-            Heard {
-                cid,
-                kind: Kind::Data(sent),
-            }
-        }
-        Packet::Synchronization(_) => Heard {
-            cid,
-            kind: Kind::Other,
-        },
-        Packet::Discovery(_) => Heard {
-            cid,
-            kind: Kind::Other,
-        },
-        Packet::Refused(r) => Heard {
-            cid,
-            kind: Kind::Unreadable(r),
-        },
-    }
+    let kind = match reading.packet {
+        Packet::Data(x) => Kind::Data(Sent {
+            universe: x.fields.universe,
+            sequence_number: x.fields.sequence_number,
+            stream_terminated: x.fields.stream_terminated,
+        }),
+        Packet::Synchronization(_) | Packet::Discovery(_) => Kind::Other,
+        Packet::Refused(r) => Kind::Unreadable(r),
+    };
+    Heard { cid, kind }
 }
 
 // What a table has of the source of a packet: one walk, which ends at the source's own entry.
+#[tactic(auto, using(crate::proofs::Scanned::walk_steps))]
 fn find(table: &[Entry], heard: Heard) -> Spot
     ensures { result ≡ spot_of table.now heard.cid heard.kind }
 {
     let mut spot = follow_rules::unseen();
-    let mut at: usize = 0;
-    while follow_rules::looks(spot, heard, at, table.len()) {
-        spot = follow_rules::look(spot, at, table[at], heard);
-        at += 1;
+    for (at, entry) in table.iter().enumerate() {
+        if !follow_rules::seeks(spot, heard) {
+            return spot;
+        }
+        spot = follow_rules::look(spot, at, *entry, heard);
     }
     spot
 }
@@ -61,12 +47,13 @@ fn find(table: &[Entry], heard: Heard) -> Spot
 fn put(table: &mut [Entry], decision: Decision)
     ensures { table.new ≡ carried_out table.old decision }
 {
-    if follow_rules::stores_within(decision, table.len()) {
-        table[decision.at] = decision.entry;
+    if let Some(stored) = follow_rules::stores_within(decision, table.len()) {
+        table[stored.at] = stored.entry;
     }
 }
 
 // Follows a datagram by what was heard of it: it takes the totals and gives back the next.
+#[tactic(auto, unfolding(crate::specs::Follow::follow_heard))]
 pub fn follow_heard(table: &mut [Entry], totals: Totals, heard: Heard) -> Followed
     ensures { after table.new result ≡ follow_heard table.old totals heard }
 {
@@ -77,6 +64,7 @@ pub fn follow_heard(table: &mut [Entry], totals: Totals, heard: Heard) -> Follow
 }
 
 // Follows a datagram, whatever it is, in any table.
+#[tactic(auto, unfolding(crate::specs::Follow::follow_of))]
 pub fn follow(table: &mut [Entry], totals: Totals, datagram: &[u8]) -> Followed
     ensures { after table.new result ≡ follow_of table.old totals datagram.now }
 {

@@ -1,7 +1,8 @@
 -- The framing layer of a data packet, in both editions. Offsets count from the layer's first byte, in its part p.
-use Rattle.std.specs.Prelude.{ℕ, ◌-◌, ◌/◌, ◌%◌, Bool, List, [], ◌∷◌, ◌++◌, length, take, drop, eqb}
+use Rattle.std.specs.Prelude.{ℕ, ◌-◌, ◌/◌, ◌%◌, Bool, List, [], ◌∷◌, ◌++◌, length, take, drop, eqb, Result, Ok, Err}
 use Rattle.wire.specs.Fields.{byte_at, u16_at}
 use Rattle.refusal.specs.Check.{Check, check, refusal, framing, reaches, fits, ◌≤?◌, ◌=?◌, ◌and◌, reading}
+use Rattle.refusal.specs.declared.Refusal.{Refusal}
 use Rattle.refusal.specs.declared.Reason.TheVariants as why
 use Rattle.refusal.specs.declared.AddressIn.TheVariants as address-in
 use Rattle.refusal.specs.declared.Field.TheVariants as field_of
@@ -12,8 +13,7 @@ use Rattle.pdu.specs.declared.VectorLength.TheVariants.{Four}
 use Rattle.dmp.specs.Layer.{dmp_checks, count_of}
 use Rattle.pdu.specs.declared.Edition.{Edition}
 use Rattle.pdu.specs.declared.Edition.TheVariants.{E2018, E2009}
-use Rattle.framing.specs.declared.Data.{Data}
-use Rattle.framing.specs.declared.Data.TheVariants.{Layer, Refused}
+use Rattle.framing.specs.declared.DataFraming.{DataFraming}
 use Rattle.framing.specs.declared.DataFields.{DataFields}
 
 -- the DMP layer's part, byte 77 up to the framing length
@@ -62,24 +62,24 @@ abbrev pub data_checks : Edition → List ℕ → List Check
 data_checks edition p = head_checks Four framing p ++ body_checks edition p (length_of p) (vector_of Four p)
 
 -- what is read of the layer: how many bytes its name has, and how many values it carries
-abbrev pub layer_named : ℕ → List ℕ → ℕ → Data
-layer_named name p len = Layer name (count_of (dmp_part p len))
+abbrev pub layer_named : ℕ → List ℕ → ℕ → DataFraming
+layer_named name p len = record { name = name; values = count_of (dmp_part p len) }
 
-abbrev pub layer_of : List ℕ → ℕ → Data
+abbrev pub layer_of : List ℕ → ℕ → DataFraming
 layer_of p len = layer_named (zero_at (name_field p)) p len
 
-unfoldable pub data_of : Edition → List ℕ → Data
-data_of edition p = reading Refused (data_checks edition p) (layer_of p (length_of p))
+unfoldable pub data_of : Edition → List ℕ → Result DataFraming Refusal
+data_of edition p = reading Err (data_checks edition p) (Ok (layer_of p (length_of p)))
 
 -- the answer from a place of the list on: after the start, after the name, after the sync address
-unfoldable pub body_of : Edition → List ℕ → ℕ → ℕ → Data
-body_of edition p len vec = reading Refused (body_checks edition p len vec) (layer_of p len)
+unfoldable pub body_of : Edition → List ℕ → ℕ → ℕ → Result DataFraming Refusal
+body_of edition p len vec = reading Err (body_checks edition p len vec) (Ok (layer_of p len))
 
-unfoldable pub after_name : Edition → ℕ → List ℕ → ℕ → Data
-after_name edition name p len = reading Refused (field_checks edition p len) (layer_named name p len)
+unfoldable pub after_name : Edition → ℕ → List ℕ → ℕ → Result DataFraming Refusal
+after_name edition name p len = reading Err (field_checks edition p len) (Ok (layer_named name p len))
 
-unfoldable pub after_sync_address : ℕ → List ℕ → ℕ → Data
-after_sync_address name p len = reading Refused (rest_checks p len) (layer_named name p len)
+unfoldable pub after_sync_address : ℕ → List ℕ → ℕ → Result DataFraming Refusal
+after_sync_address name p len = reading Err (rest_checks p len) (Ok (layer_named name p len))
 
 -- an option is a bit of its byte: 0x80 preview, 0x40 terminated, 0x20 force synchronization
 abbrev pub option : ℕ → ℕ → Bool

@@ -1,16 +1,14 @@
 // The framing layer of a data packet, in both editions.
 #![tactic(auto)]
 
-ghost use Rattle.std.specs.Prelude.{◌≡◌, ◌≤◌, length as list_length};
+ghost use Rattle.std.specs.Prelude.{◌≡◌, ◌≤◌, length as list_length, Err};
 ghost use Rattle.std.proofs.lemmas.List.Edits.{sets};
 ghost use Rattle.refusal.specs.Check.{refusal, checked_of, framing as framing_place};
 ghost use Rattle.framing.specs.Bytes.{bit_of, field_bytes, data_framing_bytes};
 ghost use Rattle.framing.specs.Data.{data_of, body_of, after_name, sync_address_checks, after_sync_address, fields_of};
 
-use dmp::Dmp;
-use name::SourceName;
-use pdu::{Edition, PduInfo, VectorLength};
-use refusal::{Checked, Refusal};
+use pdu::{Edition, VectorLength};
+use refusal::Refusal;
 use wire::constants::{
     E131_FORCE_SYNCHRONISATION_OPTION_BIT_MASK, E131_MAX_MULTICAST_UNIVERSE, E131_MAX_PRIORITY,
     E131_MIN_MULTICAST_UNIVERSE, E131_PREVIEW_DATA_OPTION_BIT_MASK,
@@ -37,7 +35,7 @@ const DATA_INDEX: usize = DATA_FRAMING_LENGTH;
 const EMPTY_LENGTH: usize = DATA_FRAMING_LENGTH + DMP_LENGTH;
 
 #[repr(C)]
-#[derive(Clone, Copy)]
+#[derive(Clone, Copy, Default)]
 pub struct DataFields {
     pub priority: u8,
     pub synchronization_address: u16,
@@ -50,42 +48,39 @@ pub struct DataFields {
 
 // A layer that is read: how many bytes its name has, and how many values it carries.
 #[derive(Clone, Copy)]
-pub enum Data {
-    Layer { name: usize, values: usize },
-    Refused(Refusal),
+pub struct DataFraming {
+    pub name: usize,
+    pub values: usize,
 }
 
-fn refuse(number: u8, value: u32) -> Data
-    ensures { result ≡ Data.Refused (refusal number framing_place value) }
+// The layer's place, said once: at each refusal it would be no plainer.
+fn refuse<T>(number: u8, value: u32) -> Result<T, Refusal>
+    ensures { result ≡ Err (refusal number framing_place value) }
 {
-    Data::Refused(Refusal::new(number, refusal::FRAMING, value))
+    refusal::refuse(number, refusal::FRAMING, value)
 }
 
 // The 2009 edition has no synchronization address to look at.
-fn check_synchronization_address(p: &[u8], edition: Edition) -> Checked
+fn check_synchronization_address(p: &[u8], edition: Edition) -> Result<(), Refusal>
     ensures { result ≡ checked_of (sync_address_checks edition p.now) }
 {
     match edition {
-        Edition::E2009 => Checked::Passed,
+        Edition::E2009 => Ok(()),
         Edition::E2018 => {
             if p.len() < SEQ_NUM_INDEX {
-                return Checked::Refused(Refusal::new(refusal::MISSING_FIELD, refusal::FRAMING, 0));
+                return refuse(refusal::MISSING_FIELD, 0);
             }
             let address = wire::u16_at(p, SYNC_ADDR_INDEX);
             if E131_MAX_MULTICAST_UNIVERSE < address {
-                return Checked::Refused(Refusal::new(
-                    refusal::INVALID_SYNC_ADDRESS,
-                    refusal::FRAMING,
-                    address as u32,
-                ));
+                return refuse(refusal::INVALID_SYNC_ADDRESS, address as u32);
             }
-            Checked::Passed
+            Ok(())
         }
     }
 }
 
 // From the sequence number on. A small framing length is told only after the fields are judged.
-fn parse_rest(p: &[u8], length: u16, name: usize) -> Data
+fn parse_rest(p: &[u8], length: u16, name: usize) -> Result<DataFraming, Refusal>
     requires { length ≤ list_length p.now }
     ensures { result ≡ after_sync_address name p.now length }
 {
@@ -109,17 +104,17 @@ fn parse_rest(p: &[u8], length: u16, name: usize) -> Data
     if end < DATA_INDEX {
         return refuse(refusal::MISSING_FIELD, 0);
     }
-    match dmp::parse(&p[DATA_INDEX..end]) {
-        Dmp::Refused(r) => Data::Refused(r),
-        Dmp::Values { count } => Data::Layer {
-            name,
-            values: count,
-        },
-    }
+    let values = dmp::parse(&p[DATA_INDEX..end])?;
+    Ok(DataFraming { name, values })
 }
 
 // From the priority on.
-fn parse_fields(p: &[u8], edition: Edition, length: u16, name: usize) -> Data
+fn parse_fields(
+    p: &[u8],
+    edition: Edition,
+    length: u16,
+    name: usize,
+) -> Result<DataFraming, Refusal>
     requires { length ≤ list_length p.now }
     ensures { result ≡ after_name edition name p.now length }
 {
@@ -130,14 +125,12 @@ fn parse_fields(p: &[u8], edition: Edition, length: u16, name: usize) -> Data
     if E131_MAX_PRIORITY < priority {
         return refuse(refusal::INVALID_PRIORITY, priority as u32);
     }
-    match check_synchronization_address(p, edition) {
-        Checked::Refused(r) => Data::Refused(r),
-        Checked::Passed => parse_rest(p, length, name),
-    }
+    check_synchronization_address(p, edition)?;
+    parse_rest(p, length, name)
 }
 
 // The checks after the layer's start.
-fn parse_body(p: &[u8], edition: Edition, length: u16, vector: u32) -> Data
+fn parse_body(p: &[u8], edition: Edition, length: u16, vector: u32) -> Result<DataFraming, Refusal>
     ensures { result ≡ body_of edition p.now length vector }
 {
     if p.len() < length as usize {
@@ -149,19 +142,16 @@ fn parse_body(p: &[u8], edition: Edition, length: u16, vector: u32) -> Data
     if p.len() < PRIORITY_INDEX {
         return refuse(refusal::MISSING_FIELD, 0);
     }
-    match name::parse_source_name_str(&p[SOURCE_NAME_INDEX..PRIORITY_INDEX]) {
-        SourceName::Refused(r) => Data::Refused(r),
-        SourceName::Text { len } => parse_fields(p, edition, length, len),
-    }
+    let name = name::parse_source_name_str(&p[SOURCE_NAME_INDEX..PRIORITY_INDEX])?;
+    parse_fields(p, edition, length, name)
 }
 
-pub fn parse(p: &[u8], edition: Edition) -> Data
+// Reads the layer whose part is p.
+pub fn parse(p: &[u8], edition: Edition) -> Result<DataFraming, Refusal>
     ensures { result ≡ data_of edition p.now }
 {
-    match pdu::pdu_info(p, VectorLength::Four, refusal::FRAMING) {
-        PduInfo::Refused(r) => Data::Refused(r),
-        PduInfo::Info { length, vector } => parse_body(p, edition, length, vector),
-    }
+    let info = pdu::pdu_info(p, VectorLength::Four, refusal::FRAMING)?;
+    parse_body(p, edition, info.length, info.vector)
 }
 
 // The plain fields of a layer; where it was refused they mean nothing.
@@ -198,14 +188,16 @@ fn put_fields(buf: &mut [u8], at: usize, fields: DataFields)
         fields.force_synchronization,
         E131_FORCE_SYNCHRONISATION_OPTION_BIT_MASK,
     );
+    let [address_high, address_low] = fields.synchronization_address.to_be_bytes();
+    let [universe_high, universe_low] = fields.universe.to_be_bytes();
     let bytes = [
         fields.priority,
-        (fields.synchronization_address / 0x100 % 0x100) as u8,
-        (fields.synchronization_address % 0x100) as u8,
+        address_high,
+        address_low,
         fields.sequence_number,
         preview + terminated + force,
-        (fields.universe / 0x100 % 0x100) as u8,
-        (fields.universe % 0x100) as u8,
+        universe_high,
+        universe_low,
     ];
     wire::copy(buf, at, &bytes);
 }

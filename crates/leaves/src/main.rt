@@ -3,21 +3,18 @@
 
 ghost use Rattle.std.specs.Prelude.{◌<◌, ◌^◌};
 
-use name::SourceName;
-use refusal::{Checked, Refusal};
+use refusal::Refusal;
 use std::io;
-use universe::Multicast;
 
 // An address and its port as one number, or 0 where there is none.
 fn address_number(universe: u16) -> u64
     ensures { result < 2 ^ 33 }
 {
     match universe::universe_to_ipv4_multicast_addr(universe) {
-        Multicast::Refused(_) => 0,
-        Multicast::Address(a) => {
-            let high = a.highest as u64 * 0x100 + a.second as u64;
-            let low = a.third as u64 * 0x100 + a.lowest as u64;
-            high * 0x1_0000 + low + a.port as u64
+        Err(_) => 0,
+        Ok(a) => {
+            let address = u32::from_be_bytes([a.highest, a.second, a.third, a.lowest]);
+            address as u64 + a.port as u64
         }
     }
 }
@@ -25,10 +22,8 @@ fn address_number(universe: u16) -> u64
 // All 65,536 answers folded into one number; the crate's own answers gave the number that is expected.
 fn all_universes(rt: &impl Print) -> io::Result<()> {
     let mut sum: u64 = 7;
-    let mut universe: u32 = 0;
-    while universe < 0x1_0000 {
-        sum = (sum * 31 + address_number(universe as u16)) % 4_294_967_291;
-        universe += 1;
+    for universe in 0..=u16::MAX {
+        sum = (sum * 31 + address_number(universe)) % 4_294_967_291;
     }
     println!(rt; "universes {sum}")
 }
@@ -36,8 +31,8 @@ fn all_universes(rt: &impl Print) -> io::Result<()> {
 fn address(rt: &impl Print, universe: u16) -> io::Result<()> {
     print!(rt; "{universe}")?;
     match universe::universe_to_ipv4_multicast_addr(universe) {
-        Multicast::Refused(r) => refusal(rt, r),
-        Multicast::Address(a) => println!(rt;
+        Err(r) => refusal(rt, r),
+        Ok(a) => println!(rt;
             " address {}.{}.{}.{} port {}",
             a.highest, a.second, a.third, a.lowest, a.port
         ),
@@ -56,16 +51,16 @@ fn utf8(rt: &impl Print, s: &[u8]) -> io::Result<()> {
 fn field(rt: &impl Print, s: &[u8]) -> io::Result<()> {
     print!(rt; "field")?;
     match name::parse_source_name_str(s) {
-        SourceName::Refused(r) => refusal(rt, r),
-        SourceName::Text { len } => println!(rt; " name of {len}"),
+        Err(r) => refusal(rt, r),
+        Ok(len) => println!(rt; " name of {len}"),
     }
 }
 
 fn written(rt: &impl Print, s: &[u8]) -> io::Result<()> {
     print!(rt; "written")?;
     match name::check_source_name(s) {
-        Checked::Refused(r) => refusal(rt, r),
-        Checked::Passed => println!(rt; " passed"),
+        Err(r) => refusal(rt, r),
+        Ok(()) => println!(rt; " passed"),
     }
 }
 

@@ -8,7 +8,7 @@ ghost use Rattle.packet.specs.Packet.{packet_of, reading_of};
 ghost use Rattle.parts.specs.Parts.{copied_of, universes_in, after_copy};
 ghost use Rattle.pack.specs.Writing.{data_bytes, synchronization_bytes, discovery_bytes, after_pack};
 ghost use Rattle.edition2009.specs.Packet.{reading2009_of};
-ghost use Rattle.c_answers.specs.Answers.{found_of, found2009_of, packed_outcome, copied_outcome, refusal_of, address_of};
+ghost use Rattle.c_answers.specs.Answers.{found_of, found2009_of, outcome_of, refusal_of, address_of};
 ghost use Rattle.ledgerwren.specs.Answers.{data_answer, synchronization_answer, discovery_answer};
 
 use c_answers::{
@@ -33,7 +33,7 @@ pub extern "C" fn ledgerwren1_parse_2009(datagram: &[u8]) -> Found2009
 // Fills `out` with the universes that a datagram lists. At a refusal `out` is left as found.
 #[unsafe(no_mangle)]
 pub extern "C" fn ledgerwren1_copy_universes(datagram: &[u8], out: &mut [u16]) -> Outcome
-    ensures answer { result ≡ copied_outcome (copied_of (packet_of datagram.now) (length out.old)) }
+    ensures answer { result ≡ outcome_of (copied_of (packet_of datagram.now) (length out.old)) }
     ensures filled { out.new ≡ after_copy (copied_of (packet_of datagram.now) (length out.old)) (universes_in datagram.now) out.old }
 {
     ledgerwren::ledgerwren1_copy_universes(datagram, out)
@@ -47,7 +47,7 @@ pub extern "C" fn ledgerwren1_pack_data(
     name: &[u8],
     values: &[u8],
 ) -> Outcome
-    ensures answer { result ≡ packed_outcome (data_answer (length buf.old) name.now values.now) }
+    ensures answer { result ≡ outcome_of (data_answer (length buf.old) name.now values.now) }
     ensures bytes { buf.new ≡ after_pack (data_answer (length buf.old) name.now values.now) (data_bytes header.cid header.fields name.now values.now) buf.old }
 {
     ledgerwren::ledgerwren1_pack_data(buf, header, name, values)
@@ -58,7 +58,7 @@ pub extern "C" fn ledgerwren1_pack_synchronization(
     buf: &mut [u8],
     header: SynchronizationHeader,
 ) -> Outcome
-    ensures answer { result ≡ packed_outcome (synchronization_answer (length buf.old)) }
+    ensures answer { result ≡ outcome_of (synchronization_answer (length buf.old)) }
     ensures bytes { buf.new ≡ after_pack (synchronization_answer (length buf.old)) (synchronization_bytes header.cid header.fields) buf.old }
 {
     ledgerwren::ledgerwren1_pack_synchronization(buf, header)
@@ -71,7 +71,7 @@ pub extern "C" fn ledgerwren1_pack_discovery(
     name: &[u8],
     universes: &[u16],
 ) -> Outcome
-    ensures answer { result ≡ packed_outcome (discovery_answer (length buf.old) name.now universes.now) }
+    ensures answer { result ≡ outcome_of (discovery_answer (length buf.old) name.now universes.now) }
     ensures bytes { buf.new ≡ after_pack (discovery_answer (length buf.old) name.now universes.now) (discovery_bytes header.cid header.fields name.now universes.now) buf.old }
 {
     ledgerwren::ledgerwren1_pack_discovery(buf, header, name, universes)

@@ -1,9 +1,5 @@
 -- How long a line can be: a program that keeps so much room puts every line whole. Assumes nothing.
-use Prim.Native.Nat.{ℕ, ◌+◌, ◌*◌, ◌/◌, ◌≤◌, ◌<◌}
-use mathlib.Core.Path.{sym, subst}
-use mathlib.Core.List.{List, []}
-use native.Mathlib.Omega.{arith}
-use lib.ListN.{length, take, drop, length-append, length-take, length-drop}
+use Rattle.std.proofs.Common.{ℕ, ◌+◌, ◌*◌, ◌/◌, ◌≤◌, ◌<◌, sym, subst, List, [], arith, length, take, drop, length-append, length-take, length-drop}
 use Rattle.refusal.specs.Check.{◌≤?◌}
 use Rattle.refusal.specs.declared.Refusal.{Refusal}
 use Rattle.refusal.proofs.Tests.{choice}
@@ -74,7 +70,7 @@ part_fits d start len =
     choice (λ (l : List ℕ). length l ≤ length d) (start + len ≤? length d) (take len (drop start d)) []
     (λ h. omega (arith, length-take len (drop start d), length-drop start d)) (λ h. omega arith)
 
-line_fits : (n : ℕ) (d : List ℕ) (r : Reading) → n < 0x1_0000_0000_0000_0000 → Sized r.packet → length (line_of n d r) ≤ 2 * length d + 174
+line_fits : (n : ℕ) (d : List ℕ) (r : Reading Packet) → n < 0x1_0000_0000_0000_0000 → Sized r.packet → length (line_of n d r) ≤ 2 * length d + 174
 line_fits n d r h k =
     let p = name_span r.packet in
     omega (arith, packet_fits n (shown_at d p) r.packet h k, part_fits d p.start p.len)

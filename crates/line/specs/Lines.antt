@@ -3,6 +3,7 @@ use Rattle.std.specs.Prelude.{ℕ, ◌/◌, List, [], ◌∷◌}
 use Rattle.wire.specs.Fields.{join}
 use Rattle.refusal.specs.declared.Refusal.{Refusal}
 use Rattle.packet.specs.declared.DataRecord.{DataRecord}
+use Rattle.framing.specs.declared.DataFields.{DataFields}
 use Rattle.packet.specs.declared.SynchronizationRecord.{SynchronizationRecord}
 use Rattle.packet.specs.declared.DiscoveryRecord.{DiscoveryRecord}
 use Rattle.packet.specs.declared.Packet.{Packet}
@@ -15,7 +16,7 @@ use Rattle.capture.specs.declared.Ending.{Ending}
 use Rattle.capture.specs.declared.Ending.TheVariants.{End, Cut, Bad}
 
 -- `N data name H prio P sync A seq S flags F univ U values K`
-unfoldable pub data_line : ℕ → List ℕ → DataRecord → List ℕ
+unfoldable pub data_line : ℕ → List ℕ → DataRecord DataFields → List ℕ
 data_line n name x =
     join
     (decimal n
@@ -55,7 +56,7 @@ packet_line n name (Discovery x) = discovery_line n name x
 packet_line n name (Refused r) = refused_line n r
 
 -- the line of entry n: a datagram and its reading
-abbrev pub line_of : ℕ → List ℕ → Reading → List ℕ
+abbrev pub line_of : ℕ → List ℕ → Reading Packet → List ℕ
 line_of n d r = packet_line n (shown_at d (name_span r.packet)) r.packet
 
 -- `end N`, `cut N`, `bad N`

@@ -3,8 +3,7 @@
 // to a collector that has all. Prints a number over what came out.
 #![tactic(auto)]
 
-use pack::Packed;
-use page_collector::{Answer, Collected, Collector};
+use page_collector::{Answer, Collector};
 use std::io;
 use std::io::Read;
 
@@ -33,33 +32,12 @@ fn mix(sum: u64, value: u32) -> u64 {
     (sum % 0x1_0000_0000 * 31 + value as u64) % 4_294_967_291
 }
 
-// A call, so that what is read from a slice has its width by the call's own type.
-fn wide_byte(byte: u8) -> u32 {
-    byte as u32
-}
-
-fn wide(universe: u16) -> u32 {
-    universe as u32
-}
-
 fn mix_bytes(start: u64, bytes: &[u8]) -> u64 {
-    let mut sum = start;
-    let mut i = 0;
-    while i < bytes.len() {
-        sum = mix(sum, wide_byte(bytes[i]));
-        i += 1;
-    }
-    sum
+    bytes.iter().fold(start, |sum, b| mix(sum, u32::from(*b)))
 }
 
 fn mix_list(start: u64, list: &[u16]) -> u64 {
-    let mut sum = start;
-    let mut i = 0;
-    while i < list.len() {
-        sum = mix(sum, wide(list[i]));
-        i += 1;
-    }
-    sum
+    list.iter().fold(start, |sum, u| mix(sum, u32::from(*u)))
 }
 
 fn universe(i: usize) -> u16 {
@@ -67,10 +45,8 @@ fn universe(i: usize) -> u16 {
 }
 
 fn fill(list: &mut [u16]) {
-    let mut i = 0;
-    while i < list.len() {
-        list[i] = universe(i);
-        i += 1;
+    for (i, u) in list.iter_mut().enumerate() {
+        *u = universe(i);
     }
 }
 
@@ -81,14 +57,7 @@ fn cid_of(round: usize) -> [u8; 16] {
     cid
 }
 
-fn length_of(packed: Packed) -> u32 {
-    match packed {
-        Packed::Length(n) => (n % 0x1_0000) as u32,
-        Packed::Refused(_) => 0,
-    }
-}
-
-// Writes a page at its place among the packets, and tells its length.
+// Writes a page at its place among the packets, and tells its length, or 0 where it is refused.
 fn write_page(packets: &mut [u8], cid: [u8; 16], page: usize, universes: &[u16]) -> u32 {
     let page = page % PAGES;
     let at = ROOM * page;
@@ -103,15 +72,13 @@ fn write_page(packets: &mut [u8], cid: [u8; 16], page: usize, universes: &[u16])
         b"desk",
         universes,
     );
-    length_of(packed)
+    (packed.unwrap_or(0) % 0x1_0000) as u32
 }
 
 fn write_pages(start: u64, packets: &mut [u8], cid: [u8; 16], universes: &[u16]) -> u64 {
     let mut sum = start;
-    let mut page = 0;
-    while page < PAGES {
+    for page in 0..PAGES {
         sum = mix(sum, write_page(packets, cid, page, universes));
-        page += 1;
     }
     sum
 }
@@ -119,34 +86,34 @@ fn write_pages(start: u64, packets: &mut [u8], cid: [u8; 16], universes: &[u16])
 // A byte of each round counts, and at the end all.
 fn write_rounds(rounds: usize, packets: &mut [u8], universes: &[u16]) -> u64 {
     let mut sum = 0;
-    let mut round = 0;
-    while round < rounds {
+    for round in 0..rounds {
         sum = write_pages(sum, packets, cid_of(round), universes);
-        sum = mix(sum, wide_byte(wire::byte_at(packets, round % ALL_ROOM)));
-        round += 1;
+        sum = mix(sum, u32::from(wire::byte_at(packets, round % ALL_ROOM)));
     }
     mix_bytes(sum, packets)
 }
 
 fn feed(
-    collector: Collector,
+    collector: &mut Collector,
     packets: &[u8],
     page: usize,
     memory: &mut [u16],
     list: &mut [u16],
-) -> Collected {
+) -> Answer {
     let at = ROOM * (page % PAGES);
-    page_collector::collect(collector, wire::part(packets, at, ROOM), memory, list)
+    collector.collect(wire::part(packets, at, ROOM), memory, list)
 }
 
 // All pages, to a fresh collector: the last completes the list.
-fn feed_all(packets: &[u8], memory: &mut [u16], list: &mut [u16]) -> Collected {
-    let mut collector = Collector::new(CID);
-    let mut page = 0;
-    while page < LAST_PAGE {
-        let kept = feed(collector, packets, page, memory, list);
-        collector = kept.collector;
-        page += 1;
+fn feed_all(
+    collector: &mut Collector,
+    packets: &[u8],
+    memory: &mut [u16],
+    list: &mut [u16],
+) -> Answer {
+    *collector = Collector::new(CID);
+    for page in 0..LAST_PAGE {
+        let _ = feed(collector, packets, page, memory, list);
     }
     feed(collector, packets, LAST_PAGE, memory, list)
 }
@@ -165,26 +132,26 @@ fn universe_at(list: &[u16], round: usize) -> u16 {
 
 fn count_of(answer: Answer) -> u32 {
     match answer {
-        Answer::List { count } => (count % 0x100_0000) as u32,
-        Answer::Kept => 0,
-        Answer::Refused(_) => 0,
+        Ok(Some(count)) => (count % 0x100_0000) as u32,
+        Ok(None) | Err(_) => 0,
     }
 }
 
 // What a join gave: how many universes, and the one that was spoilt before.
 fn mix_joined(sum: u64, answer: Answer, list: &[u16], round: usize) -> u64 {
-    mix(mix(sum, count_of(answer)), wide(universe_at(list, round)))
+    mix(
+        mix(sum, count_of(answer)),
+        u32::from(universe_at(list, round)),
+    )
 }
 
 fn collect_rounds(rounds: usize, packets: &[u8], memory: &mut [u16], list: &mut [u16]) -> u64 {
+    let mut collector = Collector::new(CID);
     let mut sum = 0;
-    let mut round = 0;
-    while round < rounds {
+    for round in 0..rounds {
         spoil(list, round);
-        let joined = feed_all(packets, memory, list);
-        let answer = joined.answer;
+        let answer = feed_all(&mut collector, packets, memory, list);
         sum = mix_joined(sum, answer, list, round);
-        round += 1;
     }
     mix_list(sum, list)
 }
@@ -192,21 +159,16 @@ fn collect_rounds(rounds: usize, packets: &[u8], memory: &mut [u16], list: &mut 
 // The last page again and again, to a collector that has all.
 fn join_rounds(
     rounds: usize,
-    full: Collector,
+    collector: &mut Collector,
     packets: &[u8],
     memory: &mut [u16],
     list: &mut [u16],
 ) -> u64 {
-    let mut collector = full;
     let mut sum = 0;
-    let mut round = 0;
-    while round < rounds {
+    for round in 0..rounds {
         spoil(list, round);
-        let joined = feed(collector, packets, LAST_PAGE, memory, list);
-        collector = joined.collector;
-        let answer = joined.answer;
+        let answer = feed(collector, packets, LAST_PAGE, memory, list);
         sum = mix_joined(sum, answer, list, round);
-        round += 1;
     }
     mix_list(sum, list)
 }
@@ -216,13 +178,9 @@ fn digit(byte: u8) -> u8 {
 }
 
 fn number(digits: &[u8]) -> usize {
-    let mut n = 0;
-    let mut i = 0;
-    while i < digits.len() {
-        n = n % 10_000_000 * 10 + digit(digits[i]) as usize;
-        i += 1;
-    }
-    n
+    digits
+        .iter()
+        .fold(0, |n, b| n % 10_000_000 * 10 + digit(*b) as usize)
 }
 
 fn run(letter: u8, rounds: usize, packets: &mut [u8], universes: &[u16]) -> u64 {
@@ -235,9 +193,9 @@ fn run(letter: u8, rounds: usize, packets: &mut [u8], universes: &[u16]) -> u64 
     if letter == b'c' {
         return collect_rounds(rounds, packets, &mut memory, &mut list);
     }
-    let first = feed_all(packets, &mut memory, &mut list);
-    let full = first.collector;
-    join_rounds(rounds, full, packets, &mut memory, &mut list)
+    let mut collector = Collector::new(CID);
+    let _ = feed_all(&mut collector, packets, &mut memory, &mut list);
+    join_rounds(rounds, &mut collector, packets, &mut memory, &mut list)
 }
 
 // Fills the buffer from standard input, as far as the input goes. Each read but the last brings a byte or more.

@@ -11,8 +11,8 @@ use Rattle.refusal.specs.declared.Reason.TheVariants as why
 use Rattle.refusal.proofs.Tests.{chosen, passed_over, decide, decided}
 use Rattle.name.specs.Utf8.{whole_chars, well_formed}
 use Rattle.name.specs.Name.{zero_at, text_of, Alike, source_name_of}
-use Rattle.name.specs.declared.SourceName.{SourceName}
-use Rattle.name.specs.declared.SourceName.TheVariants as source
+use Rattle.std.specs.Prelude.{Result, Ok, Err}
+use Rattle.refusal.specs.declared.Refusal.{Refusal}
 
 -- the first zero of a front is that of the list, or there is none
 zero_cut : (n : ℕ) (s : List ℕ) → zero_at (take n s) ≡ min n (zero_at s)
@@ -26,8 +26,8 @@ zero_cut (suc n) (b ∷ s) =
     (λ f. omega (arith, zero_cut n s, passed_over (b =? 0) 0 cut f refl, passed_over (b =? 0) 0 whole f refl))
 
 -- what is answered where there is a zero, by the name before it
-named : ℕ → List ℕ → SourceName
-named n name = reading source.Refused (check (well_formed name) (refusal 7 framing (whole_chars name)) why.NameNotUtf8 6 ∷ []) (source.Text n)
+named : ℕ → List ℕ → Result ℕ Refusal
+named n name = reading Err (check (well_formed name) (refusal 7 framing (whole_chars name)) why.NameNotUtf8 6 ∷ []) (Ok n)
 
 by_name : (field : List ℕ) → zero_at field < length field → source_name_of field ≡ named (zero_at field) (text_of field)
 unfolding source_name_of reading named

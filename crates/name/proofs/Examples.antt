@@ -6,10 +6,9 @@ use mathlib.Core.List.{List, [], ◌∷◌, ◌++◌, map}
 use mathlib.Core.Bool.{true, false}
 use lib.ListN.{length, take, replicate}
 use Rattle.refusal.specs.Check.{outcome, choose, refusal, framing, nowhere, reading, checked_of}
-use Rattle.refusal.specs.declared.Checked.TheVariants as checked
+use Rattle.std.specs.Prelude.{Err}
 use Rattle.name.specs.Utf8.{lead_of, trailed, reach, whole_chars, well_formed}
 use Rattle.name.specs.Name.{zero_at, name_bytes, source_name_of, written_name_checks}
-use Rattle.name.specs.declared.SourceName.TheVariants as source
 
 abbrev pub well : List (List ℕ)
 well =
@@ -110,17 +109,17 @@ vectors =
     ∷ bad (replicate 62 0x6e ++ 0xff ∷ []) 62
     ∷ []
 
-pub read : map (λ (b : Bad). source_name_of (name_bytes b.name)) vectors ≡ map (λ (b : Bad). source.Refused (refusal 7 framing b.good)) vectors
+pub read : map (λ (b : Bad). source_name_of (name_bytes b.name)) vectors ≡ map (λ (b : Bad). Err (refusal 7 framing b.good)) vectors
 unfolding lead_of trailed reach whole_chars choose zero_at name_bytes source_name_of reading
 read = refl
 
-pub written : map (λ (b : Bad). checked_of (written_name_checks b.name)) vectors ≡ map (λ (b : Bad). checked.Refused (refusal 23 nowhere b.good)) vectors
+pub written : map (λ (b : Bad). checked_of (written_name_checks b.name)) vectors ≡ map (λ (b : Bad). Err (refusal 23 nowhere b.good)) vectors
 unfolding lead_of trailed reach whole_chars choose zero_at checked_of reading
 written = refl
 
 -- rubbish behind the zero: 80, which goes on with a character if the zero is left out, and bytes that never do
 pub rubbish :
     map (λ (b : Bad). source_name_of (take 64 (b.name ++ 0 ∷ 0x80 ∷ replicate 64 0xff))) vectors
-    ≡ map (λ (b : Bad). source.Refused (refusal 7 framing b.good)) vectors
+    ≡ map (λ (b : Bad). Err (refusal 7 framing b.good)) vectors
 unfolding lead_of trailed reach whole_chars choose zero_at source_name_of reading
 rubbish = refl

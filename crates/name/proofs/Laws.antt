@@ -12,7 +12,8 @@ use Rattle.wire.proofs.Laws.{drop_more, take_zeros, sets_take, sets_front}
 use Rattle.name.specs.Utf8.{lead_of, step, marked, reach}
 use Rattle.name.specs.Name.{name_field, zero_at, text_of, source_name_of, name_bytes}
 use Rattle.name.specs.declared.utf8.Expect.{Expect}
-use Rattle.name.specs.declared.SourceName.{SourceName}
+use Rattle.std.specs.Prelude.{Result}
+use Rattle.refusal.specs.declared.Refusal.{Refusal}
 use Rattle.name.proofs.Choices.{Choices, row, rows, otherwise}
 
 -- the table of first bytes, with the rows e1..ec and ee..ef as 3 and 4
@@ -50,8 +51,8 @@ zero_after (b ∷ name) rest e =
     (λ f. sym (passed_over _ _ _ f (ap suc (sym (zero_after name rest (omega (arith, passed_over (b =? 0) 0 (suc (zero_at name)) f refl)))))))
 
 -- The field of a layer's part has no more than 64 bytes: x is what was found in it, and known to be y.
-pub name_found : (p : List ℕ) {x y : SourceName} → x ≡ source_name_of (take 64 (name_field p)) → x ≡ y → source_name_of (name_field p) ≡ y
-name_found p e f = ap source_name_of (sym (take-take 64 64 (drop 6 p) (omega arith))) ∙ sym e ∙ f
+pub name_found : (p : List ℕ) {x : Result ℕ Refusal} → x ≡ source_name_of (take 64 (name_field p)) → x ≡ source_name_of (name_field p)
+name_found p e = e ∙ ap source_name_of (take-take 64 64 (drop 6 p) (omega arith))
 
 -- A name as it is written: cut at 64 bytes, or followed by zeros up to them.
 pub bytes_cut : (name : List ℕ) → 64 ≤ length name → name_bytes name ≡ take 64 name

@@ -1,71 +1,55 @@
--- Words of a list: how large they are, in parts, and byte by byte. Assumes nothing.
-use Prim.Native.Nat.{ℕ, zero, suc, ◌+◌, ◌-◌, ◌*◌, ◌/◌, ◌%◌, ◌≤◌, ◌<◌}
-use mathlib.Core.Path.{◌≡◌, refl, sym, ◌∙◌}
-use mathlib.Core.List.{List, [], ◌∷◌}
-use native.Mathlib.Omega.{arith}
-use native.Mathlib.Nat.{mul_assoc}
-use lib.ListN.{length, take, drop, length-take, length-drop, drop_of_length-le, get_or-eq_default}
-use lib.Seq.{take_all, drop-drop}
+-- Words of a list: in parts, and byte by byte. Assumes nothing.
+use Rattle.std.proofs.Common.{ℕ, zero, suc, ◌+◌, ◌-◌, ◌*◌, ◌/◌, ◌%◌, ◌<◌, ◌≡◌, refl, sym, List, [], length, take, drop, get_or, get_or-take, get_or-drop, add-zero, w64, arith, take_all, drop_of_length-le}
+use Rattle.std.proofs.Math.ListN.{get_or-eq_default}
+use Rattle.std.specs.Int.{from_le_bytes}
 use Rattle.refusal.specs.Check.{◌≤?◌}
 use Rattle.refusal.proofs.Tests.{decide}
 use Rattle.wire.specs.Bytes.{Bytes}
 use Rattle.wire.specs.Fields.{byte_at}
-use Rattle.wire.proofs.Bytes.{bytes_drop, bytes_take}
-use Rattle.wire.proofs.Laws.{drop_more}
+use Rattle.wire.proofs.Laws.{drop_more, rest}
 use Rattle.name.specs.Words.{word_of}
 
--- How large a number of n bytes may be, and that it grows.
+-- How large a number of n bytes may be.
 abbrev pub room : ℕ → ℕ
 room zero = 1
 room (suc n) = room n * 0x100
 
-pub room_more : (m n : ℕ) → m ≤ n → room m ≤ room n
-room_more zero zero h = omega arith
-room_more zero (suc n) h = omega (arith, room_more zero n (omega arith))
-room_more (suc m) zero h = absurd (omega arith)
-room_more (suc m) (suc n) h = omega (arith, room_more m n (omega arith))
-
--- A word of a list: how large it is, and that of two parts.
-word_room : (s : List ℕ) (n : ℕ) → Bytes s → length s ≤ n → word_of s < room n
+word_empty : word_of [] ≡ 0
 unfolding word_of
-word_room [] n h k = omega (arith, room_more 0 n (omega arith))
-word_room (b ∷ s) zero h k = absurd (omega arith)
-word_room (b ∷ s) (suc n) h k = omega (arith, word_room s n (λ i. h (suc i)) (omega arith), h 0)
+word_empty = refl
 
-word_parts : (k : ℕ) (s : List ℕ) → k ≤ length s → word_of (drop k s) * room k + word_of (take k s) ≡ word_of s
+-- One byte more in front, also behind the end, where all are zeros.
+word_step : (n : ℕ) (s : List ℕ) (at : ℕ) → word_of (take (suc n) (drop at s)) ≡ word_of (take n (drop (at + 1) s)) * 0x100 + byte_at s at
 unfolding word_of
-word_parts zero s h = omega arith
-word_parts (suc k) [] h = absurd (omega arith)
-word_parts (suc k) (b ∷ s) h = omega (arith, word_parts k s (omega arith), mul_assoc (word_of (drop k s)) (room k) 0x100)
+word_step n s at =
+    decide (length s ≤? at)
+    (λ past. let none : drop (at + 1) s ≡ [] = drop_of_length-le s {i = at + 1} (omega arith) in
+    rw (drop_of_length-le s past, none, take_all {A = ℕ} n [] (omega arith)) (omega (arith, get_or-eq_default s 0 past)))
+    (λ inside. rw (drop_more s at inside))
 
--- from a place on: nothing behind the end, and one byte more in front
-pub word_none : (s : List ℕ) (i : ℕ) → length s ≤ i → 0 ≡ word_of (drop i s)
-unfolding word_of
-word_none s i h = rw (drop_of_length-le s h)
+word_from : (n k m : ℕ) (s : List ℕ) (at : ℕ) → m ≡ k + 1 → word_of (take (suc n) (drop (at + k) s)) ≡ word_of (take n (drop (at + m) s)) * 0x100 + byte_at s (at + k)
+word_from n k m s at e =
+    let next : at + m ≡ at + k + 1 = omega arith in
+    rw next (word_step n s (at + k))
 
-pub word_more : (s : List ℕ) (i : ℕ) → i < length s → word_of (drop i s) ≡ word_of (drop (i + 1) s) * 0x100 + byte_at s i
-unfolding word_of
-word_more s i h = rw (drop_more s i h)
+-- Eight bytes, each with what it is worth.
+abbrev pub eight : ℕ → ℕ → ℕ → ℕ → ℕ → ℕ → ℕ → ℕ → ℕ
+eight a b c d e f g h = a + b * 0x100 + c * 0x1_0000 + d * 0x100_0000 + e * 0x1_0000_0000 + f * 0x100_0000_0000 + g * 0x1_0000_0000_0000 + h * 0x100_0000_0000_0000
 
--- the last byte, and k bytes in front of the others
-pub word_last : (s : List ℕ) (i : ℕ) → length s ≤ i + 1 → byte_at s i ≡ word_of (drop i s)
-word_last s i h =
-    decide (length s ≤? i) (λ past. get_or-eq_default s 0 past ∙ word_none s i past)
-    (λ inside. omega (arith, word_more s i inside, word_none s (i + 1) h))
+pub word_eight : (s : List ℕ) (at : ℕ) →
+    word_of (take 8 (drop at s))
+    ≡ eight (byte_at s at) (byte_at s (at + 1)) (byte_at s (at + 2)) (byte_at s (at + 3)) (byte_at s (at + 4)) (byte_at s (at + 5)) (byte_at s (at + 6)) (byte_at s (at + 7))
+word_eight s at =
+    let none : word_of (take 0 (drop (at + 8) s)) ≡ 0 = word_empty in
+    omega (arith, word_step 7 s at, word_from 6 1 2 s at refl, word_from 5 2 3 s at refl, word_from 4 3 4 s at refl, word_from 3 4 5 s at refl, word_from 2 5 6 s at refl, word_from 1 6 7 s at refl, word_from 0 7 8 s at refl)
 
-pub word_front : (s : List ℕ) (i k : ℕ) → i + k ≤ length s → word_of (drop (i + k) s) * room k + word_of (take (i + k - i) (drop i s)) ≡ word_of (drop i s)
-word_front s i k h =
-    let e : i + k - i ≡ k = omega arith in
-    rw (e, ← drop-drop) (word_parts k (drop i s) (omega (arith, length-drop i s)))
-
--- how large each is
-pub front_room : (s : List ℕ) (i k : ℕ) → Bytes s → word_of (take (i + k - i) (drop i s)) < room k
-front_room s i k h =
-    let e : i + k - i ≡ k = omega arith in
-    rw e (word_room (take k (drop i s)) k (bytes_take k (drop i s) (bytes_drop i s h)) (omega (arith, length-take k (drop i s))))
-
-pub rest_room : (s : List ℕ) (i k : ℕ) → Bytes s → length s ≤ i + k → word_of (drop i s) < room k
-rest_room s i k h l = word_room (drop i s) k (bytes_drop i s h) (omega (arith, length-drop i s))
+-- as `from_le_bytes` of std has them
+pub word_le : (s bytes : List ℕ) (at n : ℕ) → n ≡ from_le_bytes w64 bytes → bytes ≡ take 8 (take (length s - at) (drop at s)) → n ≡ word_of (take 8 (drop at s))
+word_le s bytes at n e same =
+    let byte : (i : ℕ) → i < 8 → get_or bytes i 0 ≡ byte_at s (at + i) = λ i h. rw (same, rest s at, get_or-take, get_or-drop) in
+    let first = rw add-zero at (byte 0 (omega arith)) in
+    let worth : from_le_bytes w64 bytes ≡ eight (get_or bytes 0 0) (get_or bytes 1 0) (get_or bytes 2 0) (get_or bytes 3 0) (get_or bytes 4 0) (get_or bytes 5 0) (get_or bytes 6 0) (get_or bytes 7 0) = refl in
+    omega (arith, e, worth, first, word_eight s at, byte 1 (omega arith), byte 2 (omega arith), byte 3 (omega arith), byte 4 (omega arith), byte 5 (omega arith), byte 6 (omega arith), byte 7 (omega arith))
 
 -- The lowest byte of a word of n, and the others. Behind the list's end they are zeros.
 pub word_next : (n : ℕ) (s : List ℕ) (at : ℕ) → Bytes s → 0 < n →

@@ -1,11 +1,10 @@
 -- Names in a field, and names that may be written.
-use Rattle.std.specs.Prelude.{ℕ, suc, ◌+◌, ◌<◌, ◌≡◌, List, [], ◌∷◌, ◌++◌, length, take, drop, replicate}
+use Rattle.std.specs.Prelude.{ℕ, suc, ◌+◌, ◌<◌, ◌≡◌, List, [], ◌∷◌, ◌++◌, length, take, drop, replicate, Result, Ok, Err}
 use Rattle.refusal.specs.Check.{Check, check, Numbered, numbered, refusal, framing, nowhere, ◌≤?◌, ◌=?◌, choose, reading}
+use Rattle.refusal.specs.declared.Refusal.{Refusal}
 use Rattle.refusal.specs.declared.Reason.TheVariants as why
 use Rattle.name.specs.Utf8.{whole_chars, well_formed}
 use Rattle.name.specs.declared.walk.Walked.{Walked}
-use Rattle.name.specs.declared.SourceName.{SourceName}
-use Rattle.name.specs.declared.SourceName.TheVariants as source
 
 -- the field of a name, bytes 6..69 of the part of each framing layer that has one
 abbrev pub name_field : List ℕ → List ℕ
@@ -36,8 +35,9 @@ source_name_checks field =
     ∷ check (well_formed (text_of field)) (refusal 7 framing (whole_chars (text_of field))) why.NameNotUtf8 6
     ∷ []
 
-unfoldable pub source_name_of : List ℕ → SourceName
-source_name_of field = reading source.Refused (source_name_checks field) (source.Text (zero_at field))
+-- how many bytes it has
+unfoldable pub source_name_of : List ℕ → Result ℕ Refusal
+source_name_of field = reading Err (source_name_checks field) (Ok (zero_at field))
 
 -- 21: above 63 bytes; 22: has a zero; 23: not UTF-8, and how many of its leading bytes form whole characters
 abbrev pub written_name_checks : List ℕ → List Numbered

@@ -81,11 +81,9 @@ pub fn whole_characters(s: &[u8]) -> usize
 {
     let mut expect = Expect::Lead;
     let mut whole = 0;
-    let mut i = 0;
-    while i < s.len() {
-        expect = next(expect, s[i]);
-        i += 1;
-        whole = mark(expect, i, whole);
+    for (i, b) in s.iter().enumerate() {
+        expect = next(expect, *b);
+        whole = mark(expect, i + 1, whole);
     }
     whole
 }

@@ -18,11 +18,7 @@ pub(crate) struct Walked {
 fn skips(expect: Expect, word: u64) -> bool
     ensures { result ≡ true → (expect ≡ Expect.Lead) × Ascii 8 word }
 {
-    match expect {
-        Expect::Lead => words::is_ascii(word),
-        Expect::Trail { .. } => false,
-        Expect::Malformed => false,
-    }
+    matches!(expect, Expect::Lead) && words::is_ascii(word)
 }
 
 // Each turn takes the next eight bytes, each once, and works on the word that they make. No word is taken behind the zero's.
@@ -32,8 +28,7 @@ pub(crate) fn walk(s: &[u8]) -> Walked
 {
     let mut expect = Expect::Lead;
     let mut whole = 0;
-    let mut at = 0;
-    while at < s.len() {
+    for at in (0..s.len()).step_by(WORD) {
         let mut word = words::word_at(s, at);
         let mut end = at;
         if skips(expect, word) {
@@ -48,10 +43,12 @@ pub(crate) fn walk(s: &[u8]) -> Walked
                 word /= 0x100;
             }
         }
-        at += WORD;
-        if end < at {
+        if end < at + WORD {
             return Walked { len: end, whole };
         }
     }
-    Walked { len: at, whole }
+    Walked {
+        len: s.len(),
+        whole,
+    }
 }

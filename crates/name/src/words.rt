@@ -8,44 +8,32 @@ pub(crate) const WORD: usize = 8;
 // The top bit of each byte of a word.
 const TOP_BITS: u64 = 0x8080_8080_8080_8080;
 
-// A part of at most eight bytes. Where its length is known this compiles to one move.
-fn word_of(part: &[u8]) -> u64
-    requires { length part.now ≤ 8 }
-    ensures { result ≡ word_of part.now }
+// What is left from `at` on, where that is fewer than eight bytes, with zeros behind it.
+fn last_word(s: &[u8], at: usize) -> u64
+    requires { (at ≤ length s.now) × (length s.now < at + 8) }
+    ensures { result ≡ word_of (take 8 (drop at s.now)) }
 {
-    let mut word: u64 = 0;
-    let mut i = part.len();
-    while 0 < i {
-        i -= 1;
-        word = word * 0x100 + part[i] as u64;
-    }
-    word
+    u64::from_le_bytes([
+        wire::byte_at(s, at),
+        wire::byte_at(s, at + 1),
+        wire::byte_at(s, at + 2),
+        wire::byte_at(s, at + 3),
+        wire::byte_at(s, at + 4),
+        wire::byte_at(s, at + 5),
+        wire::byte_at(s, at + 6),
+        0,
+    ])
 }
 
-// What is left from `at` on, where that is fewer than four bytes: two of them are one move.
-fn last_at(s: &[u8], at: usize) -> u64
-    requires { (at ≤ length s.now) × (length s.now < at + 4) }
-    ensures { result ≡ word_of (drop at s.now) }
-{
-    if 2 <= s.len() - at {
-        return wire::byte_at(s, at + 2) as u64 * 0x1_0000 + word_of(&s[at..at + 2]);
-    }
-    wire::byte_at(s, at) as u64
-}
-
-// The next eight bytes, or those that are left, of which four are one move. Reading a name looks at its bytes nowhere else.
+// The next eight bytes, or those that are left. Reading a name looks at its bytes nowhere else, and at each once.
 pub(crate) fn word_at(s: &[u8], at: usize) -> u64
     requires { at ≤ length s.now }
     ensures { result ≡ word_of (take 8 (drop at s.now)) }
 {
-    let left = s.len() - at;
-    if WORD <= left {
-        return word_of(&s[at..at + WORD]);
+    match s[at..].first_chunk() {
+        Some(word) => u64::from_le_bytes(*word),
+        None => last_word(s, at),
     }
-    if 4 <= left {
-        return last_at(s, at + 4) * 0x1_0000_0000 + word_of(&s[at..at + 4]);
-    }
-    last_at(s, at)
 }
 
 // Whether no byte has its top bit.

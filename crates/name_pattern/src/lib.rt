@@ -8,8 +8,9 @@ ghost use Rattle.name_pattern.specs.Pattern.{pattern_checks, picks_of};
 ghost use Rattle.name_pattern.specs.Walk.{star_byte, Tells, Inside, beyond, Fits, Says, verdict_of};
 
 use name::whole_characters;
-use refusal::{Checked, Refusal};
+use refusal::Refusal;
 
+// Numbers as in `refusal`.
 pub const PATTERN_TOO_LONG: u8 = 45;
 
 pub const PATTERN_NOT_UTF8: u8 = 46;
@@ -85,15 +86,13 @@ fn verdict(taken: bool) -> Outcome
 fn star(pattern: &[u8], name: &[u8]) -> bool
     ensures { Tells result (Fits (star_byte ∷ pattern.now) name.now) }
 {
-    let mut from = 0;
-    while from <= name.len() {
+    for from in 0..=name.len() {
         let here = literal(pattern, &name[from..]);
         match here {
             Outcome::Taken => return true,
             Outcome::Nowhere => return false,
             Outcome::NotHere => {}
         }
-        from += 1;
     }
     false
 }
@@ -137,16 +136,16 @@ fn rest(pattern: &[u8], name: &[u8]) -> Outcome
 }
 
 // Whether a pattern may be asked with.
-pub fn check_pattern(pattern: &[u8]) -> Checked
+pub fn check_pattern(pattern: &[u8]) -> Result<(), Refusal>
     ensures { result ≡ checked_of (pattern_checks pattern.now) }
 {
     if LONGEST_PATTERN < pattern.len() {
-        return Checked::Refused(Refusal::new(PATTERN_TOO_LONG, refusal::NOWHERE, 0));
+        return refusal::refuse(PATTERN_TOO_LONG, refusal::NOWHERE, 0);
     }
     if whole_characters(pattern) != pattern.len() {
-        return Checked::Refused(Refusal::new(PATTERN_NOT_UTF8, refusal::NOWHERE, 0));
+        return refusal::refuse(PATTERN_NOT_UTF8, refusal::NOWHERE, 0);
     }
-    Checked::Passed
+    Ok(())
 }
 
 // Whether a pattern picks a name. One that may not be asked with picks nothing, and what is no UTF-8 is not picked. The

@@ -1,10 +1,5 @@
 -- Writing refuses only as document 01's table says, each kind with the numbers of its own checks. Assumes nothing.
-use Prim.Native.Nat.{ℕ}
-use mathlib.Core.Path.{◌≡◌, refl}
-use mathlib.Core.Bool.{true, false}
-use mathlib.Core.List.{List, [], ◌∷◌, ◌++◌}
-use lib.Dec.{leb}
-use lib.ListN.{length, get_or}
+use Rattle.std.proofs.Common.{◌≡◌, ℕ, true, false, leb, List, [], ◌∷◌, ◌++◌, length, get_or, Ok, Err, refl}
 use Rattle.refusal.specs.declared.Refusal.{Refusal}
 use Rattle.refusal.specs.Check.{Test, Numbered, outcome, pick, refusal, nowhere}
 use Rattle.refusal.proofs.Tests.{Holds, holds, bounded}
@@ -13,21 +8,19 @@ use Rattle.name.specs.Name.{written_name_checks}
 use Rattle.name.proofs.Good.{every_written}
 use Rattle.discovery.specs.Universes.{rises, order_checks}
 use Rattle.discovery.proofs.Laws.{every_pairs}
-use Rattle.pack.specs.Writing.{room_check, values_check, count_check, data_length, synchronization_length, discovery_length, data_write_checks, synchronization_write_checks, discovery_write_checks, packed_of}
+use Rattle.pack.specs.Writing.{room_check, values_check, count_check, data_length, synchronization_length, discovery_length, data_write_checks, synchronization_write_checks, discovery_write_checks, Packed, packed_of}
 use Rattle.pack.specs.Table.{data_allowed, synchronization_allowed, discovery_allowed}
-use Rattle.pack.specs.declared.Packed.{Packed}
-use Rattle.pack.specs.declared.Packed.TheVariants.{Length, Refused}
 
 -- what every check of a write tells is so of what it refuses with
 module _ (P : Refusal → Type 0) where
   abbrev Told : Packed → Type 0
-  Told (Length n) = Unit {0}
-  Told (Refused r) = P r
+  Told (Ok n) = Unit {0}
+  Told (Err r) = P r
 
-  pub refused_with : (cs : List Numbered) (len : ℕ) (r : Refusal) → Every P cs → packed_of cs len ≡ Refused r → P r
+  pub refused_with : (cs : List Numbered) (len : ℕ) (r : Refusal) → Every P cs → packed_of cs len ≡ Err r → P r
   unfolding packed_of
   refused_with cs len r all e =
-      let answer : Told (packed_of cs len) = always Refused Told cs (Length len) all tt in
+      let answer : Told (packed_of cs len) = always Err Told cs (Ok len) all tt in
       rw e at answer
 
   -- a write with a name has the check of its room, those of the name, and others
@@ -51,7 +44,7 @@ module _ (may : Refusal → Test) where
 
 -- A data packet's write tells 20 to 24, and 27.
 pub data_refusals : (room : ℕ) (name values : List ℕ) (r : Refusal) →
-    packed_of (data_write_checks room name values) (data_length values) ≡ Refused r → Holds (data_allowed r)
+    packed_of (data_write_checks room name values) (data_length values) ≡ Err r → Holds (data_allowed r)
 data_refusals room name values r e =
     let counted = values_check (length values) ∷ count_check 513 (length values) ∷ [] in
     refused_with (Allowed data_allowed) (data_write_checks room name values) (data_length values) r
@@ -59,14 +52,14 @@ data_refusals room name values r e =
 
 -- A sync packet's write tells 20.
 pub synchronization_refusals : (room : ℕ) (r : Refusal) →
-    packed_of (synchronization_write_checks room) synchronization_length ≡ Refused r → Holds (synchronization_allowed r)
+    packed_of (synchronization_write_checks room) synchronization_length ≡ Err r → Holds (synchronization_allowed r)
 synchronization_refusals room r e =
     let cs = synchronization_write_checks room in
     refused_with (Allowed synchronization_allowed) cs synchronization_length r (computed synchronization_allowed cs refl) e
 
 -- A discovery packet's write tells 20 to 26.
 pub discovery_refusals : (room : ℕ) (name us : List ℕ) (r : Refusal) →
-    packed_of (discovery_write_checks room name us) (discovery_length us) ≡ Refused r → Holds (discovery_allowed r)
+    packed_of (discovery_write_checks room name us) (discovery_length us) ≡ Err r → Holds (discovery_allowed r)
 discovery_refusals room name us r e =
     let counted = count_check 512 (length us) ∷ [] in
     let order = every_pairs rises (Allowed discovery_allowed) us (λ u i. computed discovery_allowed (rises u (get_or us i 0)) refl) in

@@ -1,16 +1,10 @@
 -- What the writers go by: a write's checks one after the other, and how long packets are. Assumes nothing.
-use Prim.Native.Nat.{ℕ, ◌≤◌}
-use mathlib.Core.Path.{◌≡◌, refl, sym, ap, ◌∙◌}
-use mathlib.Core.List.{List, [], ◌∷◌, ◌++◌, append_assoc}
-use native.Mathlib.Nat.{zero-add}
-use native.Mathlib.Omega.{arith}
-use lib.ListN.{length, drop, length-append}
-use lib.Seq.{sets}
-use Rattle.refusal.specs.Check.{Numbered, reading, checked_of}
+use Rattle.std.proofs.Common.{◌≡◌, ℕ, ◌≤◌, List, [], ◌∷◌, ◌++◌, length, drop, IsErrAnd, Ok, Err, sym, refl, ap, ◌∙◌, append_assoc, zero-add, arith, length-append}
+use Rattle.std.proofs.lemmas.Result.{err_from_is_err_and}
+use Rattle.std.proofs.lemmas.List.Edits.{sets}
+use Rattle.refusal.specs.Check.{Numbered, Checked, reading, checked_of}
 use Rattle.refusal.specs.declared.Refusal.{Refusal}
-use Rattle.refusal.specs.declared.Checked.{Checked}
-use Rattle.refusal.specs.declared.Checked.TheVariants as checked
-use Rattle.refusal.proofs.Laws.{pass, by_answer, after_check, check_first, check_last, found}
+use Rattle.refusal.proofs.Laws.{all_hold, after_check, check_first, check_last, handed_on, gone_on, read_as}
 use Rattle.name.specs.Name.{written_name_checks}
 use Rattle.name.proofs.Laws.{bytes_64}
 use Rattle.dmp.specs.Layer.{dmp_bytes}
@@ -22,47 +16,47 @@ use Rattle.framing.specs.Bytes.{data_framing_bytes}
 use Rattle.framing.specs.declared.DataFields.{DataFields}
 use Rattle.extended.specs.Bytes.{synchronization_framing_bytes, discovery_framing_bytes}
 use Rattle.extended.specs.declared.synchronization.SynchronizationFields.{SynchronizationFields}
-use Rattle.pack.specs.Writing.{room_check, data_bytes, synchronization_bytes, discovery_bytes, data_length, synchronization_length, discovery_length, packed_of}
-use Rattle.pack.specs.declared.Packed.TheVariants.{Length, Refused}
-
--- own checks, then those of the name, then the rest
-after_names : (own : List Numbered) (name : List ℕ) (rest : List Numbered) →
-    checked_of (own ++ (written_name_checks name ++ rest))
-    ≡ reading checked.Refused own (after_check checked.Refused (checked_of rest) (checked_of (written_name_checks name)))
-unfolding checked_of
-after_names own name rest = check_first checked.Refused own (written_name_checks name) rest checked.Passed
+use Rattle.pack.specs.Writing.{room_check, data_bytes, synchronization_bytes, discovery_bytes, data_length, synchronization_length, discovery_length, Packed, packed_of, after_pack}
 
 -- the checks of a write that has room, by what the name is found to be
-pub judged : (len room : ℕ) (name : List ℕ) (rest : List Numbered) (found : Checked) {x : Checked} →
-    len ≤ room → checked_of (written_name_checks name) ≡ found → x ≡ after_check checked.Refused (checked_of rest) found →
-    x ≡ checked_of (room_check len room ∷ (written_name_checks name ++ rest))
-judged len room name rest found h e f =
-    let own = room_check len room ∷ [] in
-    pass checked.Refused own (after_check checked.Refused (checked_of rest) (checked_of (written_name_checks name))) (h, tt)
-    (by_answer (after_check checked.Refused (checked_of rest)) (checked_of (written_name_checks name)) found e f)
-    ∙ sym (after_names own name rest)
+module _ (len room : ℕ) (name : List ℕ) (rest : List Numbered) (h : len ≤ room) where
+  by_name : checked_of (room_check len room ∷ (written_name_checks name ++ rest)) ≡ after_check Err (checked_of rest) (checked_of (written_name_checks name))
+  unfolding checked_of
+  by_name =
+      let own = room_check len room ∷ [] in
+      check_first Err own (written_name_checks name) rest (Ok tt)
+      ∙ all_hold Err own (after_check Err (checked_of rest) (checked_of (written_name_checks name))) (h, tt)
+
+  pub name_refused : {r : Refusal} {x : Checked} → Err r ≡ checked_of (written_name_checks name) → IsErrAnd x (λ (e : Refusal). e ≡ r) →
+      x ≡ checked_of (room_check len room ∷ (written_name_checks name ++ rest))
+  name_refused e f = handed_on (λ t. checked_of rest) e f ∙ sym by_name
+
+  pub name_passed : {x : Checked} → Ok tt ≡ checked_of (written_name_checks name) → x ≡ checked_of rest →
+      x ≡ checked_of (room_check len room ∷ (written_name_checks name ++ rest))
+  name_passed e f = gone_on (λ t. checked_of rest) e f ∙ sym by_name
 
 -- a write's answer, by what its checks come to
-by_checks : (cs : List Numbered) (len : ℕ) → packed_of cs len ≡ after_check Refused (Length len) (checked_of cs)
+by_checks : (cs : List Numbered) (len : ℕ) → packed_of cs len ≡ after_check Err (Ok len) (checked_of cs)
 unfolding packed_of reading
-by_checks cs len = check_last Refused [] cs (Length len)
+by_checks cs len = check_last Err [] cs (Ok len)
 
 -- a write that passes has room
-has_room : (len room : ℕ) (cs : List Numbered) → checked_of (room_check len room ∷ cs) ≡ checked.Passed → len ≤ room
+has_room : (len room : ℕ) (cs : List Numbered) → Ok tt ≡ checked_of (room_check len room ∷ cs) → len ≤ room
 unfolding checked_of
-has_room len room cs e =
-    let f = found checked.Refused (room_check len room ∷ cs) checked.Passed checked.Passed (λ r q. let z : ◌≡◌ {A = ℕ} 0 1 = cc in omega arith) e in
-    f.0.0
+has_room len room cs e = (read_as (room_check len room ∷ cs) tt tt (sym e)).0.0
 
--- a write whose checks refuse tells that; one whose checks pass tells its length and has the packet in the buffer's front
-pub write_refused : (cs : List Numbered) (len : ℕ) (r : Refusal) → checked_of cs ≡ checked.Refused r → Refused r ≡ packed_of cs len
-write_refused cs len r e = by_answer (after_check Refused (Length len)) (checked_of cs) (checked.Refused r) e refl ∙ sym (by_checks cs len)
+-- a write whose checks refuse tells that, and leaves the buffer; one whose checks pass tells its length and has the packet in the buffer's front
+pub left_as_found : (x : Packed) (r : Refusal) (packet buf : List ℕ) → IsErrAnd x (λ (e : Refusal). e ≡ r) → buf ≡ after_pack x packet buf
+left_as_found x r packet buf f = ap (λ (y : Packed). after_pack y packet buf) (sym (err_from_is_err_and x f).1)
 
-pub write_passed : (len : ℕ) (rest : List Numbered) (buf after packet : List ℕ) → checked_of (room_check len (length buf) ∷ rest) ≡ checked.Passed →
-    length packet ≡ len → after ≡ sets buf 0 packet → (Length len ≡ packed_of (room_check len (length buf) ∷ rest) len) × (after ≡ packet ++ drop len buf)
+pub write_refused : (cs : List Numbered) (len : ℕ) {x : Packed} {r : Refusal} → Err r ≡ checked_of cs → IsErrAnd x (λ (e : Refusal). e ≡ r) → x ≡ packed_of cs len
+write_refused cs len e f = handed_on (λ t. Ok len) e f ∙ sym (by_checks cs len)
+
+pub write_passed : (len : ℕ) (rest : List Numbered) (buf after packet : List ℕ) → Ok tt ≡ checked_of (room_check len (length buf) ∷ rest) →
+    length packet ≡ len → after ≡ sets buf 0 packet → (Ok len ≡ packed_of (room_check len (length buf) ∷ rest) len) × (after ≡ packet ++ drop len buf)
 write_passed len rest buf after packet e long put =
     let cs = room_check len (length buf) ∷ rest in (
-      by_answer (after_check Refused (Length len)) (checked_of cs) checked.Passed e refl ∙ sym (by_checks cs len),
+      gone_on (λ t. Ok len) e refl ∙ sym (by_checks cs len),
       put ∙ sets_front packet buf len long (has_room len (length buf) rest e),
     )
 

@@ -1,6 +1,7 @@
 -- Packets as bytes, in document 01's layout; what refuses a write, in its order; and the buffer afterwards.
-use Rattle.std.specs.Prelude.{ℕ, ◌+◌, ◌*◌, List, [], ◌∷◌, ◌++◌, length, drop}
+use Rattle.std.specs.Prelude.{ℕ, ◌+◌, ◌*◌, List, [], ◌∷◌, ◌++◌, length, drop, Result, Ok, Err}
 use Rattle.wire.specs.Fields.{be16, be32, join}
+use Rattle.refusal.specs.declared.Refusal.{Refusal}
 use Rattle.refusal.specs.Check.{Numbered, numbered, refusal, nowhere, ◌≤?◌, reading}
 use Rattle.name.specs.Name.{written_name_checks}
 use Rattle.pdu.specs.Head.{flags_and_length}
@@ -10,8 +11,6 @@ use Rattle.framing.specs.Bytes.{data_framing_bytes}
 use Rattle.framing.specs.declared.DataFields.{DataFields}
 use Rattle.extended.specs.Bytes.{synchronization_framing_bytes, discovery_framing_bytes}
 use Rattle.extended.specs.declared.synchronization.SynchronizationFields.{SynchronizationFields}
-use Rattle.pack.specs.declared.Packed.{Packed}
-use Rattle.pack.specs.declared.Packed.TheVariants.{Length, Refused}
 
 abbrev pub identifier : List ℕ
 identifier = 0x41 ∷ 0x53 ∷ 0x43 ∷ 0x2d ∷ 0x45 ∷ 0x31 ∷ 0x2e ∷ 0x31 ∷ 0x37 ∷ 0x00 ∷ 0x00 ∷ 0x00 ∷ []
@@ -65,10 +64,13 @@ discovery_write_checks room name us =
     room_check (discovery_length us) room ∷ written_name_checks name ++ count_check 512 (length us) ∷ order_checks us
 
 -- the answer: the packet's length, or the first refusal
+abbrev pub Packed : Type 0
+Packed = Result ℕ Refusal
+
 unfoldable pub packed_of : List Numbered → ℕ → Packed
-packed_of cs len = reading Refused cs (Length len)
+packed_of cs len = reading Err cs (Ok len)
 
 -- the buffer afterwards: the packet, then what stood there before; at a refusal all as found
 abbrev pub after_pack : Packed → List ℕ → List ℕ → List ℕ
-after_pack (Length n) packet buf = packet ++ drop n buf
-after_pack (Refused r) packet buf = buf
+after_pack (Ok n) packet buf = packet ++ drop n buf
+after_pack (Err r) packet buf = buf

@@ -3,13 +3,13 @@
 
 ghost use Rattle.std.specs.Prelude.{◌++◌, ◌≡◌, ◌+◌, ◌*◌, length};
 ghost use Rattle.std.proofs.lemmas.List.Edits.{sets};
-ghost use Rattle.refusal.specs.Check.{refusal, checked_of, nowhere};
+ghost use Rattle.refusal.specs.Check.{checked_of};
 ghost use Rattle.pack.specs.Writing.{root_head, data_bytes, synchronization_bytes, discovery_bytes, data_length, synchronization_length, discovery_length, data_write_checks, synchronization_write_checks, discovery_write_checks, packed_of, after_pack};
 
 use discovery::DiscoveryFields;
 use extended::synchronization::SynchronizationFields;
 use framing::DataFields;
-use refusal::{Checked, Refusal};
+use refusal::Refusal;
 use wire::constants::{
     DISCOVERY_UNI_PER_PAGE, E131_POSTAMBLE_SIZE, E131_PREAMBLE_SIZE, UNIVERSE_CHANNEL_CAPACITY,
     VECTOR_ROOT_E131_DATA, VECTOR_ROOT_E131_EXTENDED,
@@ -32,29 +32,19 @@ const EMPTY_DISCOVERY_LENGTH: usize = UNIVERSES_START;
 
 const EMPTY_DISCOVERY_ROOT_LENGTH: usize = UNIVERSES_START - PREAMBLE_LENGTH;
 
-// A packet that is written, with its length.
-#[derive(Clone, Copy)]
-pub enum Packed {
-    Length(usize),
-    Refused(Refusal),
-}
-
-fn refuse(number: u8) -> Checked
-    ensures { result ≡ Checked.Refused (refusal number nowhere 0) }
-{
-    Checked::Refused(Refusal::new(number, refusal::NOWHERE, 0))
-}
-
 // Bytes 0 to 37: the preamble, and the root layer's own, with its length.
 fn put_root(buf: &mut [u8], length: usize, vector: u32, cid: [u8; 16])
     ensures { buf.new ≡ sets buf.old 0 (root_head length vector ++ cid) }
 {
-    let flags = pdu::flags_and_length(length);
+    let [preamble_0, preamble_1] = E131_PREAMBLE_SIZE.to_be_bytes();
+    let [postamble_0, postamble_1] = E131_POSTAMBLE_SIZE.to_be_bytes();
+    let [flags_0, flags_1] = pdu::flags_and_length(length).to_be_bytes();
+    let [vector_0, vector_1, vector_2, vector_3] = vector.to_be_bytes();
     let head = [
-        (E131_PREAMBLE_SIZE / 0x100) as u8,
-        (E131_PREAMBLE_SIZE % 0x100) as u8,
-        (E131_POSTAMBLE_SIZE / 0x100) as u8,
-        (E131_POSTAMBLE_SIZE % 0x100) as u8,
+        preamble_0,
+        preamble_1,
+        postamble_0,
+        postamble_1,
         b'A',
         b'S',
         b'C',
@@ -67,52 +57,44 @@ fn put_root(buf: &mut [u8], length: usize, vector: u32, cid: [u8; 16])
         0,
         0,
         0,
-        (flags / 0x100 % 0x100) as u8,
-        (flags % 0x100) as u8,
-        (vector / 0x1_0000 / 0x100 % 0x100) as u8,
-        (vector / 0x1_0000 % 0x100) as u8,
-        (vector % 0x1_0000 / 0x100 % 0x100) as u8,
-        (vector % 0x1_0000 % 0x100) as u8,
+        flags_0,
+        flags_1,
+        vector_0,
+        vector_1,
+        vector_2,
+        vector_3,
     ];
     wire::copy(buf, 0, &head);
     wire::copy(buf, CID_START, &cid);
 }
 
-fn check_data(room: usize, name: &[u8], values: &[u8]) -> Checked
+fn check_data(room: usize, name: &[u8], values: &[u8]) -> Result<(), Refusal>
     ensures { result ≡ checked_of (data_write_checks room name.now values.now) }
 {
     if room < EMPTY_DATA_LENGTH + values.len() {
-        return refuse(refusal::BUFFER_TOO_SMALL);
+        return refusal::refuse(refusal::BUFFER_TOO_SMALL, refusal::NOWHERE, 0);
     }
-    match name::check_source_name(name) {
-        Checked::Refused(r) => Checked::Refused(r),
-        Checked::Passed => {
-            if values.len() == 0 {
-                return refuse(refusal::NO_VALUES);
-            }
-            if UNIVERSE_CHANNEL_CAPACITY < values.len() {
-                return refuse(refusal::TOO_MANY);
-            }
-            Checked::Passed
-        }
+    name::check_source_name(name)?;
+    if values.len() == 0 {
+        return refusal::refuse(refusal::NO_VALUES, refusal::NOWHERE, 0);
     }
+    if UNIVERSE_CHANNEL_CAPACITY < values.len() {
+        return refusal::refuse(refusal::TOO_MANY, refusal::NOWHERE, 0);
+    }
+    Ok(())
 }
 
-fn check_discovery(room: usize, name: &[u8], universes: &[u16]) -> Checked
+fn check_discovery(room: usize, name: &[u8], universes: &[u16]) -> Result<(), Refusal>
     ensures { result ≡ checked_of (discovery_write_checks room name.now universes.now) }
 {
     if room < EMPTY_DISCOVERY_LENGTH + 2 * universes.len() {
-        return refuse(refusal::BUFFER_TOO_SMALL);
+        return refusal::refuse(refusal::BUFFER_TOO_SMALL, refusal::NOWHERE, 0);
     }
-    match name::check_source_name(name) {
-        Checked::Refused(r) => Checked::Refused(r),
-        Checked::Passed => {
-            if DISCOVERY_UNI_PER_PAGE < universes.len() {
-                return refuse(refusal::TOO_MANY);
-            }
-            discovery::check_order(universes)
-        }
+    name::check_source_name(name)?;
+    if DISCOVERY_UNI_PER_PAGE < universes.len() {
+        return refusal::refuse(refusal::TOO_MANY, refusal::NOWHERE, 0);
     }
+    discovery::check_order(universes)
 }
 
 fn put_data(buf: &mut [u8], cid: [u8; 16], fields: DataFields, name: &[u8], values: &[u8])
@@ -157,34 +139,35 @@ fn put_discovery(
     extended::universe_discovery::pack(buf, FRAMING_START, fields, name, universes);
 }
 
+// The length of the packet that is written.
 pub fn pack_data(
     buf: &mut [u8],
     cid: [u8; 16],
     fields: DataFields,
     name: &[u8],
     values: &[u8],
-) -> Packed
+) -> Result<usize, Refusal>
     ensures answer { result ≡ packed_of (data_write_checks (length buf.old) name.now values.now) (data_length values.now) }
     ensures bytes { buf.new ≡ after_pack result (data_bytes cid fields name.now values.now) buf.old }
 {
-    match check_data(buf.len(), name, values) {
-        Checked::Refused(r) => Packed::Refused(r),
-        Checked::Passed => {
-            put_data(buf, cid, fields, name, values);
-            Packed::Length(EMPTY_DATA_LENGTH + values.len())
-        }
-    }
+    check_data(buf.len(), name, values)?;
+    put_data(buf, cid, fields, name, values);
+    Ok(EMPTY_DATA_LENGTH + values.len())
 }
 
-pub fn pack_synchronization(buf: &mut [u8], cid: [u8; 16], fields: SynchronizationFields) -> Packed
+pub fn pack_synchronization(
+    buf: &mut [u8],
+    cid: [u8; 16],
+    fields: SynchronizationFields,
+) -> Result<usize, Refusal>
     ensures answer { result ≡ packed_of (synchronization_write_checks (length buf.old)) synchronization_length }
     ensures bytes { buf.new ≡ after_pack result (synchronization_bytes cid fields) buf.old }
 {
     if buf.len() < SYNCHRONIZATION_LENGTH {
-        return Packed::Refused(Refusal::new(refusal::BUFFER_TOO_SMALL, refusal::NOWHERE, 0));
+        return refusal::refuse(refusal::BUFFER_TOO_SMALL, refusal::NOWHERE, 0);
     }
     put_synchronization(buf, cid, fields);
-    Packed::Length(SYNCHRONIZATION_LENGTH)
+    Ok(SYNCHRONIZATION_LENGTH)
 }
 
 pub fn pack_discovery(
@@ -193,15 +176,11 @@ pub fn pack_discovery(
     fields: DiscoveryFields,
     name: &[u8],
     universes: &[u16],
-) -> Packed
+) -> Result<usize, Refusal>
     ensures answer { result ≡ packed_of (discovery_write_checks (length buf.old) name.now universes.now) (discovery_length universes.now) }
     ensures bytes { buf.new ≡ after_pack result (discovery_bytes cid fields name.now universes.now) buf.old }
 {
-    match check_discovery(buf.len(), name, universes) {
-        Checked::Refused(r) => Packed::Refused(r),
-        Checked::Passed => {
-            put_discovery(buf, cid, fields, name, universes);
-            Packed::Length(EMPTY_DISCOVERY_LENGTH + 2 * universes.len())
-        }
-    }
+    check_discovery(buf.len(), name, universes)?;
+    put_discovery(buf, cid, fields, name, universes);
+    Ok(EMPTY_DISCOVERY_LENGTH + 2 * universes.len())
 }

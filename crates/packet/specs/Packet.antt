@@ -16,6 +16,7 @@ use Rattle.extended.specs.Extended.{extended_checks}
 use Rattle.root.specs.Root.{preamble_checks, root_checks, root_part}
 use Rattle.packet.specs.declared.Span.{Span}
 use Rattle.packet.specs.declared.DataRecord.{DataRecord}
+use Rattle.framing.specs.declared.DataFields.{DataFields}
 use Rattle.packet.specs.declared.SynchronizationRecord.{SynchronizationRecord}
 use Rattle.packet.specs.declared.DiscoveryRecord.{DiscoveryRecord}
 use Rattle.packet.specs.declared.Packet.{Packet}
@@ -40,7 +41,7 @@ packet_checks d = (preamble_checks d ++ root_checks E2018 (root_part d)) ++ fram
 abbrev pub span : ℕ → ℕ → Span
 span start len = record { start = start; len = len }
 
-abbrev pub data_record : List ℕ → DataRecord
+abbrev pub data_record : List ℕ → DataRecord DataFields
 data_record p = record {
   fields = dataLayer.fields_of p;
   name = span 44 (zero_at (name_field p));
@@ -83,11 +84,11 @@ unfoldable pub cid_in : List ℕ → List ℕ
 cid_in d = choose (38 ≤? length d) (cid_of d) (replicate 16 0)
 
 -- the CID beside an answer: sixteen zeros at a refusal
-abbrev pub with_cid : List ℕ → Packet → Reading
+abbrev pub with_cid : List ℕ → Packet → Reading Packet
 with_cid d (Refused r) = record { cid = replicate 16 0; packet = Refused r }
 with_cid d (Data x) = record { cid = cid_of d; packet = Data x }
 with_cid d (Synchronization x) = record { cid = cid_of d; packet = Synchronization x }
 with_cid d (Discovery x) = record { cid = cid_of d; packet = Discovery x }
 
-unfoldable pub reading_of : List ℕ → Reading
+unfoldable pub reading_of : List ℕ → Reading Packet
 reading_of d = with_cid d (packet_of d)

@@ -7,10 +7,9 @@ ghost use Rattle.packet.specs.Packet.{data_packet_of, extended_packet_of, packet
 use discovery::DiscoveryFields;
 use extended::Extended;
 use extended::synchronization::SynchronizationFields;
-use framing::{Data, DataFields};
+use framing::DataFields;
 use pdu::Edition;
 use refusal::Refusal;
-use root::Root;
 use wire::constants::{E131_CID_FIELD_LENGTH, VECTOR_ROOT_E131_DATA};
 use wire::layout::{
     CID_START, FRAMING_START, PREAMBLE_LENGTH, SOURCE_NAME_START, UNIVERSES_START, VALUES_START,
@@ -18,15 +17,16 @@ use wire::layout::{
 
 // Where something stands in a datagram.
 #[repr(C)]
-#[derive(Clone, Copy)]
+#[derive(Clone, Copy, Default)]
 pub struct Span {
     pub start: usize,
     pub len: usize,
 }
 
+// Each edition has fields of its own.
 #[derive(Clone, Copy)]
-pub struct DataRecord {
-    pub fields: DataFields,
+pub struct DataRecord<F = DataFields> {
+    pub fields: F,
     pub name: Span,
     pub values: Span,
 }
@@ -44,6 +44,8 @@ pub struct DiscoveryRecord {
     pub universes: Span,
 }
 
+// An enum of four answers with the CID beside it, as document 01 has it: `editions` of edition2009 and the demands speak
+// of its cases.
 #[derive(Clone, Copy)]
 pub enum Packet {
     Data(DataRecord),
@@ -54,9 +56,9 @@ pub enum Packet {
 
 // The sender's CID stands beside what was read; it is sixteen zeros at a refusal.
 #[derive(Clone, Copy)]
-pub struct Reading {
+pub struct Reading<P = Packet> {
     pub cid: [u8; 16],
-    pub packet: Packet,
+    pub packet: P,
 }
 
 // The framing layer of a data packet, whose part is p.
@@ -64,16 +66,16 @@ fn parse_data(p: &[u8]) -> Packet
     ensures { result ≡ data_packet_of p.now }
 {
     match framing::parse(p, Edition::E2018) {
-        Data::Refused(r) => Packet::Refused(r),
-        Data::Layer { name, values } => Packet::Data(DataRecord {
+        Err(r) => Packet::Refused(r),
+        Ok(layer) => Packet::Data(DataRecord {
             fields: framing::fields(p),
             name: Span {
                 start: SOURCE_NAME_START,
-                len: name,
+                len: layer.name,
             },
             values: Span {
                 start: VALUES_START,
-                len: values,
+                len: layer.values,
             },
         }),
     }
@@ -84,23 +86,19 @@ fn parse_extended(p: &[u8], whole: usize) -> Packet
     ensures { result ≡ extended_packet_of whole p.now }
 {
     match extended::parse(p, whole) {
-        Extended::Refused(r) => Packet::Refused(r),
-        Extended::Synchronization(fields) => {
+        Err(r) => Packet::Refused(r),
+        Ok(Extended::Synchronization(fields)) => {
             Packet::Synchronization(SynchronizationRecord { fields })
         }
-        Extended::Discovery {
-            name,
-            fields,
-            universes,
-        } => Packet::Discovery(DiscoveryRecord {
-            fields,
+        Ok(Extended::Discovery(layer)) => Packet::Discovery(DiscoveryRecord {
+            fields: layer.fields,
             name: Span {
                 start: SOURCE_NAME_START,
-                len: name,
+                len: layer.name,
             },
             universes: Span {
                 start: UNIVERSES_START,
-                len: 2 * universes as usize,
+                len: 2 * layer.universes as usize,
             },
         }),
     }
@@ -111,10 +109,10 @@ pub fn parse_packet(datagram: &[u8]) -> Packet
     ensures { result ≡ packet_of datagram.now }
 {
     match root::parse(datagram, Edition::E2018) {
-        Root::Refused(r) => Packet::Refused(r),
-        Root::Layer { vector, end } => {
-            let part = &datagram[FRAMING_START..PREAMBLE_LENGTH + end];
-            if vector == VECTOR_ROOT_E131_DATA {
+        Err(r) => Packet::Refused(r),
+        Ok(layer) => {
+            let part = &datagram[FRAMING_START..PREAMBLE_LENGTH + layer.end];
+            if layer.vector == VECTOR_ROOT_E131_DATA {
                 parse_data(part)
             } else {
                 parse_extended(part, datagram.len() - PREAMBLE_LENGTH)

@@ -1,5 +1,5 @@
 -- What a datagram does to a collector, to its memory and to the lent list, and what it is answered. The order: reading's own refusals; 31; 42; 43; 44.
-use Rattle.std.specs.Prelude.{ℕ, ◌+◌, ◌*◌, List, [], ◌∷◌, length, take, set, replicate}
+use Rattle.std.specs.Prelude.{ℕ, ◌+◌, ◌*◌, List, [], ◌∷◌, length, take, set, replicate, Option, Some, None, Result, Ok, Err}
 use Rattle.std.proofs.lemmas.List.Edits.{sets}
 use Rattle.refusal.specs.declared.Refusal.{Refusal}
 use Rattle.refusal.specs.Check.{Test, Numbered, numbered, refusal, nowhere, ◌≤?◌, ◌=?◌, ◌and◌, choose, reading}
@@ -13,9 +13,24 @@ use Rattle.parts.specs.Parts.{listed_at}
 use Rattle.page_collector.specs.Pages.{Page, missing, kept, join_all}
 use Rattle.page_collector.specs.Memory.{pages_in}
 use Rattle.page_collector.specs.declared.Collector.{Collector}
-use Rattle.page_collector.specs.declared.Answer.{Answer}
-use Rattle.page_collector.specs.declared.Answer.TheVariants as answer
-use Rattle.page_collector.specs.declared.Collected.{Collected}
+
+-- an answer: the list is there, and how many it has; a page is missing; a refusal
+abbrev pub Answer : Type 0
+Answer = Result (Option ℕ) Refusal
+
+abbrev pub list_of : ℕ → Answer
+list_of n = Ok (Some n)
+
+abbrev pub page_missing : Answer
+page_missing = Ok None
+
+abbrev pub refused : Refusal → Answer
+refused r = Err r
+
+-- what a datagram gives back: the answer, and the next collector
+pub record Collected : Type 0 where
+  pub collector : Collector
+  pub answer : Answer
 
 -- what is lent, as it is afterwards, and what is given back
 pub record After : Type 0 where
@@ -29,12 +44,12 @@ after memory list r = record { memory = memory; list = list; collected = r }
 abbrev pub collected_of : Collector → Answer → Collected
 collected_of c a = record { collector = c; answer = a }
 
-abbrev pub collector_of : List ℕ → ℕ → List ℕ → Collector
+abbrev pub collector_of : List ℕ → ℕ → List (Option ℕ) → Collector
 collector_of cid last counts = record { cid = cid; last_page = last; counts = counts }
 
 -- a fresh collector: no page is there
-unfoldable pub no_counts : List ℕ
-no_counts = replicate 256 0
+unfoldable pub no_counts : List (Option ℕ)
+no_counts = replicate 256 None
 
 abbrev pub fresh : List ℕ → Collector
 fresh cid = collector_of cid 0 no_counts
@@ -54,11 +69,11 @@ take_in_checks c cid last memory list =
     ∷ []
 
 -- a page is kept: all start afresh where the last page's number has changed
-unfoldable pub counts_for : Collector → ℕ → List ℕ
+unfoldable pub counts_for : Collector → ℕ → List (Option ℕ)
 counts_for c last = choose (c.last_page =? last) c.counts no_counts
 
 abbrev pub keeping : Collector → DiscoveryFields → List ℕ → Collector
-keeping c f us = collector_of c.cid f.last_page (set (counts_for c f.last_page) f.page (length us + 1))
+keeping c f us = collector_of c.cid f.last_page (set (counts_for c f.last_page) f.page (Some (length us)))
 
 abbrev pub memory_with : List ℕ → DiscoveryFields → List ℕ → List ℕ
 memory_with memory f us = sets memory (512 * f.page) us
@@ -69,14 +84,14 @@ climbs u v = numbered (u + 1 ≤? v) (refusal 44 nowhere 0) ∷ []
 
 -- all pages are there: the list and how many it has, or 44
 abbrev pub answer_to : Page → Answer
-answer_to missing = answer.Kept
-answer_to (kept us) = reading answer.Refused (pairs climbs us) (answer.List (length us))
+answer_to missing = page_missing
+answer_to (kept us) = reading refused (pairs climbs us) (list_of (length us))
 
 -- the lent list afterwards: the list in front and the rest as found, or all as found
 abbrev pub list_by : Answer → List ℕ → List ℕ → List ℕ
-list_by (answer.List n) us list = sets list 0 us
-list_by answer.Kept us list = list
-list_by (answer.Refused r) us list = list
+list_by (Ok (Some n)) us list = sets list 0 us
+list_by (Ok None) us list = list
+list_by (Err r) us list = list
 
 abbrev pub list_with : List ℕ → Page → List ℕ
 list_with list missing = list
@@ -89,7 +104,7 @@ joining c memory list =
 
 -- nothing is moved
 abbrev pub refusing : Collector → List ℕ → List ℕ → Refusal → After
-refusing c memory list r = after memory list (collected_of c (answer.Refused r))
+refusing c memory list r = after memory list (collected_of c (refused r))
 
 unfoldable pub take_in : Collector → List ℕ → DiscoveryFields → List ℕ → List ℕ → List ℕ → After
 take_in c cid f us memory list =

@@ -1,7 +1,8 @@
 -- The parts of a datagram that a reading shows, and its universes copied out.
-use Rattle.std.specs.Prelude.{ℕ, ◌/◌, List, [], ◌∷◌}
+use Rattle.std.specs.Prelude.{ℕ, ◌/◌, List, [], ◌∷◌, Result, Ok, Err}
 use Rattle.std.proofs.lemmas.List.Edits.{sets}
 use Rattle.wire.specs.Fields.{part_of}
+use Rattle.refusal.specs.declared.Refusal.{Refusal}
 use Rattle.refusal.specs.Check.{numbered, refusal, nowhere, ◌≤?◌, reading}
 use Rattle.discovery.specs.Universes.{all_universes}
 use Rattle.packet.specs.Packet.{span, packet_of}
@@ -9,8 +10,6 @@ use Rattle.packet.specs.declared.Span.{Span}
 use Rattle.packet.specs.declared.Packet.{Packet}
 use Rattle.packet.specs.declared.Packet.TheVariants.{Data, Synchronization, Discovery, Refused}
 use Rattle.parts.specs.declared.Spans.{Spans}
-use Rattle.parts.specs.declared.Copied.{Copied}
-use Rattle.parts.specs.declared.Copied.TheVariants as copied
 
 -- a part is empty where its span runs past the datagram
 abbrev pub shown_at : List ℕ → Span → List ℕ
@@ -49,14 +48,14 @@ abbrev pub universes_in : List ℕ → List ℕ
 universes_in d = listed_at d (universes_span (packet_of d))
 
 -- 31: no readable discovery packet, or no room for its universes
-abbrev pub copied_of : Packet → ℕ → Copied
-copied_of (Data x) room = copied.Refused (refusal 31 nowhere 0)
-copied_of (Synchronization x) room = copied.Refused (refusal 31 nowhere 0)
+abbrev pub copied_of : Packet → ℕ → Result ℕ Refusal
+copied_of (Data x) room = Err (refusal 31 nowhere 0)
+copied_of (Synchronization x) room = Err (refusal 31 nowhere 0)
 copied_of (Discovery x) room =
-    reading copied.Refused (numbered (x.universes.len / 2 ≤? room) (refusal 31 nowhere 0) ∷ []) (copied.Universes (x.universes.len / 2))
-copied_of (Refused r) room = copied.Refused (refusal 31 nowhere 0)
+    reading Err (numbered (x.universes.len / 2 ≤? room) (refusal 31 nowhere 0) ∷ []) (Ok (x.universes.len / 2))
+copied_of (Refused r) room = Err (refusal 31 nowhere 0)
 
 -- the lent numbers afterwards: the universes in front and the rest as found, or all as found
-abbrev pub after_copy : Copied → List ℕ → List ℕ → List ℕ
-after_copy (copied.Universes n) us out = sets out 0 us
-after_copy (copied.Refused r) us out = out
+abbrev pub after_copy : Result ℕ Refusal → List ℕ → List ℕ → List ℕ
+after_copy (Ok n) us out = sets out 0 us
+after_copy (Err r) us out = out

@@ -20,5 +20,5 @@ fields_of (Synchronization x) = fields.Synchronization x.fields
 fields_of (Discovery x) = fields.Discovery x.fields
 fields_of (Refused r) = fields.Refused r
 
-abbrev pub plain_of : Reading → Plain
+abbrev pub plain_of : Reading Packet → Plain
 plain_of x = record { cid = x.cid; fields = fields_of x.packet }

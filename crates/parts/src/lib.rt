@@ -3,7 +3,7 @@
 
 pub mod plain;
 
-ghost use Rattle.std.specs.Prelude.{◌≡◌, length};
+ghost use Rattle.std.specs.Prelude.{◌≡◌, length, Err};
 ghost use Rattle.refusal.specs.Check.{refusal, nowhere};
 ghost use Rattle.packet.specs.Packet.{packet_of};
 ghost use Rattle.parts.specs.Parts.{shown_at, name_span, values_span, spans_of, copied_of, listed_at, universes_in, after_copy};
@@ -17,19 +17,11 @@ pub struct Spans {
     pub values: Span,
 }
 
-#[derive(Clone, Copy)]
-pub enum Copied {
-    Universes { count: usize },
-    Refused(Refusal),
-}
-
 // What stands at a span, or nothing where the span runs past the datagram.
 pub fn shown(datagram: &[u8], span: Span) -> &[u8]
     ensures { result.now ≡ shown_at datagram.now span }
 {
-    let start = span.start;
-    let len = span.len;
-    wire::part(datagram, start, len)
+    wire::part(datagram, span.start, span.len)
 }
 
 fn name_span(packet: Packet) -> Span
@@ -38,8 +30,7 @@ fn name_span(packet: Packet) -> Span
     match packet {
         Packet::Data(x) => x.name,
         Packet::Discovery(x) => x.name,
-        Packet::Synchronization(_) => Span { start: 0, len: 0 },
-        Packet::Refused(_) => Span { start: 0, len: 0 },
+        Packet::Synchronization(_) | Packet::Refused(_) => Span::default(),
     }
 }
 
@@ -48,9 +39,7 @@ fn values_span(packet: Packet) -> Span
 {
     match packet {
         Packet::Data(x) => x.values,
-        Packet::Discovery(_) => Span { start: 0, len: 0 },
-        Packet::Synchronization(_) => Span { start: 0, len: 0 },
-        Packet::Refused(_) => Span { start: 0, len: 0 },
+        Packet::Discovery(_) | Packet::Synchronization(_) | Packet::Refused(_) => Span::default(),
     }
 }
 
@@ -69,25 +58,23 @@ pub fn spans_in(datagram: &[u8]) -> Spans
 pub fn name(datagram: &[u8], reading: Reading) -> &[u8]
     ensures { result.now ≡ shown_at datagram.now (name_span reading.packet) }
 {
-    let packet = reading.packet;
-    shown(datagram, name_span(packet))
+    shown(datagram, name_span(reading.packet))
 }
 
 // The values, likewise.
 pub fn values(datagram: &[u8], reading: Reading) -> &[u8]
     ensures { result.now ≡ shown_at datagram.now (values_span reading.packet) }
 {
-    let packet = reading.packet;
-    shown(datagram, values_span(packet))
+    shown(datagram, values_span(reading.packet))
 }
 
-fn refuse_copy() -> Copied
-    ensures { result ≡ Copied.Refused (refusal 31 nowhere 0) }
+fn refuse_copy<T>() -> Result<T, Refusal>
+    ensures { result ≡ Err (refusal 31 nowhere 0) }
 {
-    Copied::Refused(Refusal::new(refusal::NO_UNIVERSES_COPIED, refusal::NOWHERE, 0))
+    refusal::refuse(refusal::NO_UNIVERSES_COPIED, refusal::NOWHERE, 0)
 }
 
-fn copy_listed(datagram: &[u8], x: DiscoveryRecord, out: &mut [u16]) -> Copied
+fn copy_listed(datagram: &[u8], x: DiscoveryRecord, out: &mut [u16]) -> Result<usize, Refusal>
     ensures answer { result ≡ copied_of (Packet.Discovery x) (length out.old) }
     ensures filled { out.new ≡ after_copy result (listed_at datagram.now x.universes) out.old }
 {
@@ -97,18 +84,16 @@ fn copy_listed(datagram: &[u8], x: DiscoveryRecord, out: &mut [u16]) -> Copied
         return refuse_copy();
     }
     discovery::copy_universes(shown(datagram, span), out);
-    Copied::Universes { count }
+    Ok(count)
 }
 
-// Reads a datagram and fills `out` with its universes. At a refusal `out` is left as found.
-pub fn copy_universes(datagram: &[u8], out: &mut [u16]) -> Copied
+// Reads a datagram, fills `out` with its universes and tells how many they are. At a refusal `out` is left as found.
+pub fn copy_universes(datagram: &[u8], out: &mut [u16]) -> Result<usize, Refusal>
     ensures answer { result ≡ copied_of (packet_of datagram.now) (length out.old) }
     ensures filled { out.new ≡ after_copy result (universes_in datagram.now) out.old }
 {
     match packet::parse_packet(datagram) {
         Packet::Discovery(x) => copy_listed(datagram, x, out),
-        Packet::Data(_) => refuse_copy(),
-        Packet::Synchronization(_) => refuse_copy(),
-        Packet::Refused(_) => refuse_copy(),
+        Packet::Data(_) | Packet::Synchronization(_) | Packet::Refused(_) => refuse_copy(),
     }
 }

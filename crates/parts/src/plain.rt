@@ -8,6 +8,7 @@ use framing::DataFields;
 use packet::{Packet, Reading};
 use refusal::Refusal;
 
+// The four answers of `Packet`, which document 01 has as one enum: the kinds, and then each with its plain fields.
 #[derive(Clone, Copy)]
 pub enum Kind {
     Data,
@@ -34,8 +35,7 @@ pub struct Plain {
 pub fn kind_of(reading: Reading) -> Kind
     ensures { result ≡ kind_of reading.packet }
 {
-    let packet = reading.packet;
-    match packet {
+    match reading.packet {
         Packet::Data(_) => Kind::Data,
         Packet::Synchronization(_) => Kind::Synchronization,
         Packet::Discovery(_) => Kind::Discovery,
@@ -47,18 +47,9 @@ fn fields_of(packet: Packet) -> Fields
     ensures { result ≡ fields_of packet }
 {
     match packet {
-        Packet::Data(x) => {
-            let fields = x.fields;
-            Fields::Data(fields)
-        }
-        Packet::Synchronization(x) => {
-            let fields = x.fields;
-            Fields::Synchronization(fields)
-        }
-        Packet::Discovery(x) => {
-            let fields = x.fields;
-            Fields::Discovery(fields)
-        }
+        Packet::Data(x) => Fields::Data(x.fields),
+        Packet::Synchronization(x) => Fields::Synchronization(x.fields),
+        Packet::Discovery(x) => Fields::Discovery(x.fields),
         Packet::Refused(r) => Fields::Refused(r),
     }
 }
@@ -67,9 +58,8 @@ pub fn plain_of(reading: Reading) -> Plain
     ensures { result ≡ plain_of reading }
 {
     let cid = reading.cid;
-    let packet = reading.packet;
     Plain {
         cid,
-        fields: fields_of(packet),
+        fields: fields_of(reading.packet),
     }
 }

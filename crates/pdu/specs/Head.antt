@@ -1,11 +1,11 @@
 -- How every layer's part starts. Its first two bytes are four bits of flags and twelve of length; a vector of one byte or four follows.
-use Rattle.std.specs.Prelude.{ℕ, ◌+◌, ◌*◌, ◌/◌, ◌%◌, List, [], ◌∷◌, length}
+use Rattle.std.specs.Prelude.{ℕ, ◌+◌, ◌*◌, ◌/◌, ◌%◌, List, [], ◌∷◌, length, Result, Ok, Err}
 use Rattle.wire.specs.Fields.{byte_at, u16_at, u32_at, be16, be32, join}
 use Rattle.refusal.specs.Check.{Check, check, refusal, ◌≤?◌, ◌=?◌, reading}
+use Rattle.refusal.specs.declared.Refusal.{Refusal}
 use Rattle.refusal.specs.declared.Reason.TheVariants as why
 use Rattle.refusal.specs.declared.Start.TheVariants as start_in
 use Rattle.pdu.specs.declared.PduInfo.{PduInfo}
-use Rattle.pdu.specs.declared.PduInfo.TheVariants.{Info, Refused}
 use Rattle.pdu.specs.declared.VectorLength.{VectorLength}
 use Rattle.pdu.specs.declared.VectorLength.TheVariants.{One, Four}
 
@@ -31,8 +31,8 @@ head_checks n place p =
     ∷ check (flags_of p =? 0x70) (refusal 3 place (flags_of p)) why.Flags 0
     ∷ []
 
-unfoldable pub info_of : VectorLength → ℕ → List ℕ → PduInfo
-info_of n place p = reading Refused (head_checks n place p) (Info (length_of p) (vector_of n p))
+unfoldable pub info_of : VectorLength → ℕ → List ℕ → Result PduInfo Refusal
+info_of n place p = reading Err (head_checks n place p) (Ok (record { length = length_of p; vector = vector_of n p }))
 
 -- flags and length as they are written: the flags 0x70 above twelve bits of length
 abbrev pub flags_field : ℕ → ℕ

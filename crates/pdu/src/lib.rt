@@ -23,10 +23,11 @@ pub enum VectorLength {
     Four,
 }
 
+// What a layer's start says.
 #[derive(Clone, Copy)]
-pub enum PduInfo {
-    Info { length: u16, vector: u32 },
-    Refused(Refusal),
+pub struct PduInfo {
+    pub length: u16,
+    pub vector: u32,
 }
 
 fn size_of(n: VectorLength) -> usize
@@ -48,20 +49,20 @@ fn vector_of(p: &[u8], n: VectorLength) -> u32
 }
 
 // Reads the start of the layer whose part is p; place is the layer's, for a refusal.
-pub fn pdu_info(p: &[u8], n: VectorLength, place: u8) -> PduInfo
+pub fn pdu_info(p: &[u8], n: VectorLength, place: u8) -> Result<PduInfo, Refusal>
     ensures { result ≡ info_of n place p.now }
 {
     if p.len() < E131_PDU_LENGTH_FLAGS_LENGTH + size_of(n) {
-        return PduInfo::Refused(Refusal::new(refusal::PART_TOO_SHORT, place, 0));
+        return refusal::refuse(refusal::PART_TOO_SHORT, place, 0);
     }
     let flags = wire::byte_at(p, 0) / 0x10 * 0x10;
     if flags != E131_PDU_FLAGS {
-        return PduInfo::Refused(Refusal::new(refusal::INVALID_FLAGS, place, flags as u32));
+        return refusal::refuse(refusal::INVALID_FLAGS, place, flags as u32);
     }
-    PduInfo::Info {
+    Ok(PduInfo {
         length: wire::u16_at(p, 0) % 0x1000,
         vector: vector_of(p, n),
-    }
+    })
 }
 
 // The field that a layer is written with: the flags, and twelve bits of its length.
@@ -75,14 +76,8 @@ pub fn flags_and_length(length: usize) -> u16
 pub fn put_head(buf: &mut [u8], at: usize, length: usize, vector: u32)
     ensures { buf.new ≡ sets buf.old at (layer_head length vector) }
 {
-    let flags = flags_and_length(length);
-    let head = [
-        (flags / 0x100 % 0x100) as u8,
-        (flags % 0x100) as u8,
-        (vector / 0x1_0000 / 0x100 % 0x100) as u8,
-        (vector / 0x1_0000 % 0x100) as u8,
-        (vector % 0x1_0000 / 0x100 % 0x100) as u8,
-        (vector % 0x1_0000 % 0x100) as u8,
-    ];
+    let [flags_0, flags_1] = flags_and_length(length).to_be_bytes();
+    let [vector_0, vector_1, vector_2, vector_3] = vector.to_be_bytes();
+    let head = [flags_0, flags_1, vector_0, vector_1, vector_2, vector_3];
     wire::copy(buf, at, &head);
 }

@@ -6,11 +6,8 @@ mod address;
 mod read;
 mod write;
 
-ghost use Rattle.std.specs.Prelude.{◌<◌};
-
-use capture::LONGEST_ENTRY;
-use capture_input::Next;
-use turns::{BLOCK, MOST_ENTRIES, State};
+use text::Text;
+use turns::{BLOCK, Teller};
 
 // The requests.
 const READ: u8 = 0;
@@ -26,84 +23,71 @@ const ADDRESS: u8 = 4;
 // Words that are told as they are, for whoever reads the answers.
 const WORDS: u8 = 5;
 
-fn put_words(out: &mut [u8], at: usize, words: &[u8]) -> usize {
-    let next = text::put(out, at, words);
-    text::put(out, next, b"\n")
+fn put_words(out: &mut Text, words: &[u8]) {
+    out.put(words);
+    out.put(b"\n");
 }
 
-fn put_malformed(out: &mut [u8], at: usize, n: u64) -> usize {
-    let next = text::put_decimal(out, at, n);
-    text::put(out, next, b" malformed\n")
+fn put_malformed(out: &mut Text, n: u64) {
+    out.put_decimal(n);
+    out.put(b" malformed\n");
 }
 
 // The answer to a request of a packet, into a buffer as long as was asked.
-fn put_written(out: &mut [u8], at: usize, n: u64, kind: u8, asked: &[u8]) -> usize {
+fn put_written(out: &mut Text, n: u64, kind: u8, asked: &[u8]) {
     let room = write::room(asked);
     if write::MOST_ROOM < room {
-        return put_malformed(out, at, n);
+        return put_malformed(out, n);
     }
     let mut space = [write::UNTOUCHED; write::MOST_ROOM];
     let buf = &mut space[0..room];
     match kind {
-        WRITE_DATA => write::put_data(out, at, n, asked, buf),
-        WRITE_SYNCHRONIZATION => write::put_synchronization(out, at, n, asked, buf),
-        _ => write::put_discovery(out, at, n, asked, buf),
+        WRITE_DATA => write::put_data(out, n, asked, buf),
+        WRITE_SYNCHRONIZATION => write::put_synchronization(out, n, asked, buf),
+        _ => write::put_discovery(out, n, asked, buf),
     }
 }
 
 // The answer to request n.
-fn put_answer(out: &mut [u8], at: usize, n: u64, request: &[u8]) -> usize {
+fn put_answer(out: &mut Text, n: u64, request: &[u8]) {
     if request.len() == 0 {
-        return put_malformed(out, at, n);
+        return put_malformed(out, n);
     }
     let asked = wire::part(request, 1, request.len() - 1);
     match request[0] {
-        READ => read::put_reading(out, at, n, asked),
-        WRITE_DATA => put_written(out, at, n, WRITE_DATA, asked),
-        WRITE_SYNCHRONIZATION => put_written(out, at, n, WRITE_SYNCHRONIZATION, asked),
-        WRITE_DISCOVERY => put_written(out, at, n, WRITE_DISCOVERY, asked),
+        READ => read::put_reading(out, n, asked),
+        WRITE_DATA => put_written(out, n, WRITE_DATA, asked),
+        WRITE_SYNCHRONIZATION => put_written(out, n, WRITE_SYNCHRONIZATION, asked),
+        WRITE_DISCOVERY => put_written(out, n, WRITE_DISCOVERY, asked),
         ADDRESS => {
             if asked.len() < 2 {
-                return put_malformed(out, at, n);
+                return put_malformed(out, n);
             }
-            address::put_address(out, at, n, wire::u16_at(asked, 0))
+            address::put_address(out, n, wire::u16_at(asked, 0))
         }
-        WORDS => put_words(out, at, asked),
-        _ => put_malformed(out, at, n),
+        WORDS => put_words(out, asked),
+        _ => put_malformed(out, n),
     }
 }
 
-// What follows n entries.
-fn turn(
-    rt: &(impl Input + Print + Eprint),
-    block: &mut [u8],
-    entry: &mut [u8],
-    out: &mut [u8],
-    state: State,
-    n: u64,
-) -> State
-    requires { n < 0xffff_ffff_ffff_ffff }
-{
-    let found = turns::take(rt, block, entry, state);
-    let next = found.next;
-    let taken = found.state;
-    match next {
-        Next::Entry { len } => {
-            let end = put_answer(out, taken.at, n + 1, wire::part(entry, 0, len));
-            turns::go_on(rt, out, end, taken)
-        }
-        _ => turns::finish(rt, out, taken.at, next, n, taken),
+#[derive(Clone, Copy)]
+struct Prober;
+
+// Nothing is promised of a test program's lines, so there is no telling that it tells by.
+impl Teller for Prober {
+    ghost knows = { λ telling_by program past. ⊥ };
+
+    fn put_line(&mut self, out: &mut Text, n: u64, datagram: &[u8]) {
+        put_answer(out, n, datagram);
+    }
+
+    fn put_end(&self, out: &mut Text) {
+        out.put(b"");
     }
 }
 
 fn main(rt: HostRuntime) {
     let mut block = [0; BLOCK];
-    let mut entry = [0; LONGEST_ENTRY];
     let mut out = [0; BLOCK];
-    let mut state = turns::begin();
-    let mut n = 0;
-    while state.going && n < MOST_ENTRIES {
-        state = turn(&rt, &mut block, &mut entry, &mut out, state, n);
-        n += 1;
-    }
+    turns::run_program(&rt, &mut Prober, &mut block, &mut Text::new(&mut out));
 }

@@ -4,7 +4,8 @@ ghost use Rattle.std.specs.Prelude.{◌<◌};
 use discovery::DiscoveryFields;
 use extended::synchronization::SynchronizationFields;
 use framing::DataFields;
-use pack::Packed;
+use refusal::Refusal;
+use text::Text;
 
 // What a buffer is filled with before the call, so that a byte left alone can be told.
 pub const UNTOUCHED: u8 = 0xee;
@@ -65,37 +66,31 @@ fn data_fields(asked: &[u8]) -> DataFields {
 }
 
 fn is_kept(buf: &[u8]) -> bool {
-    let mut i = 0;
-    while i < buf.len() {
-        if buf[i] != UNTOUCHED {
-            return false;
-        }
-        i += 1;
-    }
-    true
+    buf.iter().all(|b| *b == UNTOUCHED)
 }
 
 // `N packed L B`, or a refusal's line with a word more.
-fn put_packed(out: &mut [u8], at: usize, n: u64, packed: Packed, buf: &[u8]) -> usize {
-    let next = text::put_decimal(out, at, n);
+fn put_packed(out: &mut Text, n: u64, packed: Result<usize, Refusal>, buf: &[u8]) {
+    out.put_decimal(n);
     match packed {
-        Packed::Length(len) => {
-            let next = text::put_field(out, next, b" packed ", len as u64);
-            let next = text::put(out, next, b" ");
-            let next = text::put_hex(out, next, buf);
-            text::put(out, next, b"\n")
+        Ok(len) => {
+            out.put_field(b" packed ", len as u64);
+            out.put(b" ");
+            out.put_hex(buf);
+            out.put(b"\n");
         }
-        Packed::Refused(r) => {
-            let next = field_text::put_refusal(out, next, r);
-            if is_kept(buf) {
-                return text::put(out, next, b" kept\n");
-            }
-            text::put(out, next, b" spoilt\n")
+        Err(r) => {
+            field_text::put_refusal(out, r);
+            out.put(if is_kept(buf) {
+                b" kept\n"
+            } else {
+                b" spoilt\n"
+            });
         }
     }
 }
 
-pub fn put_data(out: &mut [u8], at: usize, n: u64, asked: &[u8], buf: &mut [u8]) -> usize {
+pub fn put_data(out: &mut Text, n: u64, asked: &[u8], buf: &mut [u8]) {
     let packed = pack::pack_data(
         buf,
         cid(asked),
@@ -103,30 +98,24 @@ pub fn put_data(out: &mut [u8], at: usize, n: u64, asked: &[u8], buf: &mut [u8])
         name_at(asked, DATA_NAME),
         list_at(asked, DATA_NAME),
     );
-    put_packed(out, at, n, packed, buf)
+    put_packed(out, n, packed, buf);
 }
 
-pub fn put_synchronization(
-    out: &mut [u8],
-    at: usize,
-    n: u64,
-    asked: &[u8],
-    buf: &mut [u8],
-) -> usize {
+pub fn put_synchronization(out: &mut Text, n: u64, asked: &[u8], buf: &mut [u8]) {
     let fields = SynchronizationFields {
         sequence_number: wire::byte_at(asked, FIELDS),
         synchronization_address: wire::u16_at(asked, FIELDS + 1),
     };
     let packed = pack::pack_synchronization(buf, cid(asked), fields);
-    put_packed(out, at, n, packed, buf)
+    put_packed(out, n, packed, buf);
 }
 
-fn put_too_long(out: &mut [u8], at: usize, n: u64) -> usize {
-    let next = text::put_decimal(out, at, n);
-    text::put(out, next, b" too long\n")
+fn put_too_long(out: &mut Text, n: u64) {
+    out.put_decimal(n);
+    out.put(b" too long\n");
 }
 
-pub fn put_discovery(out: &mut [u8], at: usize, n: u64, asked: &[u8], buf: &mut [u8]) -> usize {
+pub fn put_discovery(out: &mut Text, n: u64, asked: &[u8], buf: &mut [u8]) {
     let fields = DiscoveryFields {
         page: wire::byte_at(asked, FIELDS),
         last_page: wire::byte_at(asked, FIELDS + 1),
@@ -136,7 +125,7 @@ pub fn put_discovery(out: &mut [u8], at: usize, n: u64, asked: &[u8], buf: &mut 
     discovery::copy_universes(list, &mut universes);
     let count = list.len() / 2;
     if MOST_LISTED < count {
-        return put_too_long(out, at, n);
+        return put_too_long(out, n);
     }
     let packed = pack::pack_discovery(
         buf,
@@ -145,5 +134,5 @@ pub fn put_discovery(out: &mut [u8], at: usize, n: u64, asked: &[u8], buf: &mut 
         name_at(asked, DISCOVERY_NAME),
         &universes[0..count],
     );
-    put_packed(out, at, n, packed, buf)
+    put_packed(out, n, packed, buf);
 }

@@ -7,9 +7,10 @@ use mathlib.Core.Bool.{Bool, true, false}
 use mathlib.Core.Logic.{◌⊎◌, inl, inr, ⊎_elim}
 use native.Mathlib.Omega.{arith}
 use Rattle.refusal.specs.declared.Refusal.{Refusal}
-use Rattle.refusal.specs.declared.Checked.{Checked}
-use Rattle.refusal.specs.declared.Checked.TheVariants as checked
-use Rattle.refusal.specs.Check.{Test, outcome, CheckOf, refusal, pick, choose, reading, checked_of}
+use Rattle.std.specs.Prelude.{Result, Ok, Err}
+use Rattle.std.specs.Result.{IsErrAnd}
+use Rattle.std.proofs.lemmas.Result.{err_from_is_err_and}
+use Rattle.refusal.specs.Check.{Test, Checked, outcome, CheckOf, refusal, pick, choose, reading, checked_of}
 use Rattle.refusal.proofs.Tests.{Holds, Fails, Fact, fact, decided}
 
 -- all checks of a list hold
@@ -129,24 +130,64 @@ module _ {I A B : Type 0} (after : A → B) (refused : Refusal → A) (handed : 
       reading_++ handed own (cs ++ rest) b
       ∙ ap (reading handed own) (reading_++ handed cs rest b ∙ inner after refused handed cs a (reading handed rest b) h e)
 
+-- what `?` answers: a refusal is handed on, and else `next` goes on with what was found
+abbrev pub after : {A B : Type 0} → (Refusal → B) → (A → B) → Result A Refusal → B
+after handed next (Err r) = handed r
+after handed next (Ok a) = next a
+
+-- an answer that is no refusal: all checks held, and the answer is what follows them
+abbrev found_or : {A : Type 0} → A → Result A Refusal → A
+found_or d (Ok a) = a
+found_or d (Err r) = d
+
+pub not_refused : {A : Type 0} (a : A) (r : Refusal) → ◌≡◌ {A = Result A Refusal} (Err r) (Ok a) → ⊥
+not_refused a r q = let z : ◌≡◌ {A = ℕ} 0 1 = cc in omega arith
+
+pub read_as : {I A : Type 0} (cs : List (CheckOf I)) (next a : A) → reading Err cs (Ok next) ≡ Ok a → All cs × (next ≡ a)
+read_as cs next a e =
+    let f = found Err cs (Ok next) (Ok a) (not_refused a) e in
+    (f.0, ap (found_or next) f.1)
+
+-- the code's answers behind a `?`: it met a refusal, or went on with what was found
+pub handed_on : {A B : Type 0} (next : A → Result B Refusal) {y : Result A Refusal} {r : Refusal} {x : Result B Refusal} →
+    Err r ≡ y → IsErrAnd x (λ (e : Refusal). e ≡ r) → x ≡ after Err next y
+handed_on next {r = r} {x = x} e h =
+    let p = err_from_is_err_and x h in
+    p.1 ∙ ap Err p.2 ∙ ap (after Err next) e
+
+pub gone_on : {A B : Type 0} (next : A → Result B Refusal) {y : Result A Refusal} {a : A} {x : Result B Refusal} →
+    Ok a ≡ y → x ≡ next a → x ≡ after Err next y
+gone_on next e f = f ∙ ap (after Err next) e
+
+-- the inner list stands alone, last, or first of more
+module _ {A B : Type 0} (handed : Refusal → B) (next : A → B) where
+  pub after_all : {I : Type 0} (cs : List (CheckOf I)) (a : A) → reading handed cs (next a) ≡ after handed next (reading Err cs (Ok a))
+  after_all cs a = inner (after handed next) Err handed cs (Ok a) (next a) (λ r. refl) refl
+
+  pub after_last : {I : Type 0} (own cs : List (CheckOf I)) (a : A) →
+      reading handed (own ++ cs) (next a) ≡ reading handed own (after handed next (reading Err cs (Ok a)))
+  after_last own cs a = inner_last (after handed next) Err handed own cs (Ok a) (next a) (λ r. refl) refl
+
+  pub after_first : {I : Type 0} (own cs rest : List (CheckOf I)) (a : A) (b : B) → next a ≡ reading handed rest b →
+      reading handed (own ++ (cs ++ rest)) b ≡ reading handed own (after handed next (reading Err cs (Ok a)))
+  after_first own cs rest a b e = inner_first (after handed next) Err handed own cs (Ok a) b (λ r. refl) rest e
+
 -- where the inner list only checks: `next` is what follows it
 module _ {B : Type 0} (handed : Refusal → B) where
   abbrev pub after_check : B → Checked → B
-  after_check next (checked.Refused r) = handed r
-  after_check next checked.Passed = next
+  after_check next = after handed (λ t. next)
 
   pub check_last : {I : Type 0} (own cs : List (CheckOf I)) (b : B) → reading handed (own ++ cs) b ≡ reading handed own (after_check b (checked_of cs))
   unfolding checked_of
-  check_last own cs b = inner_last (after_check b) checked.Refused handed own cs checked.Passed b (λ r. refl) refl
+  check_last own cs b = after_last handed (λ t. b) own cs tt
 
   pub check_first : {I : Type 0} (own cs rest : List (CheckOf I)) (b : B) →
       reading handed (own ++ (cs ++ rest)) b ≡ reading handed own (after_check (reading handed rest b) (checked_of cs))
   unfolding checked_of
-  check_first own cs rest b =
-      inner_first (after_check (reading handed rest b)) checked.Refused handed own cs checked.Passed b (λ r. refl) rest refl
+  check_first own cs rest b = after_first handed (λ t. reading handed rest b) own cs rest tt b refl
 
 -- no checks
-pub none_checked : (I : Type 0) → checked_of {I = I} [] ≡ checked.Passed
+pub none_checked : (I : Type 0) → checked_of {I = I} [] ≡ (Ok tt)
 unfolding checked_of reading
 none_checked I = refl
 

@@ -1,13 +1,11 @@
 -- How document 01 defines an answer: an ordered list of checks, of which the first that fails refuses.
-use Rattle.std.specs.Prelude.{ℕ, ◌+◌, List, [], ◌∷◌, Bool, true, false, not, leb, eqb, length}
+use Rattle.std.specs.Prelude.{ℕ, ◌+◌, List, [], ◌∷◌, Bool, true, false, not, leb, eqb, length, Result, Ok, Err}
 use Rattle.refusal.specs.declared.Refusal.{Refusal}
 use Rattle.refusal.specs.declared.Reason.{Reason}
 use Rattle.refusal.specs.declared.Reason.TheVariants as why
 use Rattle.refusal.specs.declared.Room.TheVariants as room_in
 use Rattle.refusal.specs.declared.Field.{Field}
 use Rattle.refusal.specs.declared.Identity.{Identity}
-use Rattle.refusal.specs.declared.Checked.{Checked}
-use Rattle.refusal.specs.declared.Checked.TheVariants as checked
 
 infix 15 ◌≤?◌
 infix 15 ◌=?◌
@@ -103,6 +101,9 @@ unfoldable pub reading : {I A : Type 0} → (Refusal → A) → List (CheckOf I)
 reading refused [] next = next
 reading refused (c ∷ cs) next = pick (outcome c.test) (reading refused cs next) (refused c.otherwise)
 
--- the same where there is nothing to hand back
+-- what a test of something answers where there is nothing to hand back
+abbrev pub Checked : Type 0
+Checked = Result (Unit {0}) Refusal
+
 unfoldable pub checked_of : {I : Type 0} → List (CheckOf I) → Checked
-checked_of cs = reading checked.Refused cs checked.Passed
+checked_of cs = reading Err cs (Ok tt)

@@ -1,10 +1,11 @@
 // Why a packet is refused: document 01's number, the place it is told at, and the value it carries.
 #![tactic(auto)]
 
-ghost use Rattle.std.specs.Prelude.{◌≡◌};
+ghost use Rattle.std.specs.Prelude.{◌≡◌, Err};
 ghost use Rattle.refusal.specs.Check.{refusal};
 
-// The numbers, each by what is wrong.
+// The numbers, each by what is wrong. No enum: the C interface hands them out as document 01's table has them, with 0
+// where nothing is refused.
 pub const PART_TOO_SHORT: u8 = 1;
 
 pub const INVALID_DATA: u8 = 2;
@@ -59,7 +60,7 @@ pub const NO_MULTICAST_ADDRESS: u8 = 30;
 
 pub const NO_UNIVERSES_COPIED: u8 = 31;
 
-// The places: the layer that refused, or none for the numbers from 20 on.
+// The places: the layer that refused, or none for the numbers from 20 on. They cross to C as the numbers do.
 pub const NOWHERE: u8 = 0;
 
 pub const PREAMBLE: u8 = 1;
@@ -75,7 +76,7 @@ pub const DISCOVERY: u8 = 5;
 pub const UNIVERSE_LIST: u8 = 6;
 
 #[repr(C)]
-#[derive(Clone, Copy)]
+#[derive(Clone, Copy, Default)]
 pub struct Refusal {
     pub number: u8,
     pub place: u8,
@@ -182,13 +183,6 @@ pub struct Identity {
     pub byte: usize,
 }
 
-// What a test of something answers where there is nothing to hand back.
-#[derive(Clone, Copy)]
-pub enum Checked {
-    Passed,
-    Refused(Refusal),
-}
-
 impl Refusal {
     pub fn new(number: u8, place: u8, value: u32) -> Refusal
         ensures { result ≡ refusal number place value }
@@ -199,4 +193,11 @@ impl Refusal {
             value,
         }
     }
+}
+
+// No answer but the refusal.
+pub fn refuse<T>(number: u8, place: u8, value: u32) -> Result<T, Refusal>
+    ensures { result ≡ Err (refusal number place value) }
+{
+    Err(Refusal::new(number, place, value))
 }

@@ -1,16 +1,16 @@
 -- What an accepted root layer says. Assumes nothing.
-use Prim.Native.Nat.{ℕ, ◌+◌, ◌≤◌}
-use mathlib.Core.Path.{◌≡◌}
+use Rattle.std.specs.Prelude.{ℕ, ◌+◌, ◌≤◌, Ok, Err}
+use mathlib.Core.Path.{◌≡◌, ap}
 use mathlib.Core.List.{List, ◌++◌}
 use native.Mathlib.Omega.{arith}
 use lib.ListN.{length, length-drop}
 use Rattle.refusal.specs.Check.{root}
-use Rattle.refusal.proofs.Laws.{All, found, all_front, all_back}
+use Rattle.refusal.proofs.Laws.{All, read_as, all_front, all_back}
 use Rattle.pdu.specs.Head.{head_checks, length_of, vector_of}
 use Rattle.pdu.specs.declared.VectorLength.TheVariants.{Four}
 use Rattle.pdu.specs.declared.Edition.{Edition}
-use Rattle.root.specs.Root.{preamble_checks, root_part, vector_checks, length_checks, cid_checks, body_checks, root_checks, root_of}
-use Rattle.root.specs.declared.Root.TheVariants as layer
+use Rattle.root.specs.declared.RootLayer.{RootLayer}
+use Rattle.root.specs.Root.{preamble_checks, root_part, vector_checks, length_checks, cid_checks, body_checks, root_checks, found_in, root_of}
 
 -- the root layer lies in the datagram, and holds its CID
 abbrev pub Within : List ℕ → ℕ → Type 0
@@ -27,12 +27,10 @@ within edition d h =
     let cid = all_back vectors (cid_checks len) (all_back (length_checks p len) (vectors ++ cid_checks len) body) in
     omega (arith, length-drop 16 d)
 
-pub root_within : (edition : Edition) (d : List ℕ) (v n : ℕ) → root_of edition d ≡ layer.Layer v n → Within d n
+pub root_within : (edition : Edition) (d : List ℕ) (l : RootLayer) → root_of edition d ≡ Ok l → Within d l.end
 unfolding root_of
-root_within edition d v n e =
+root_within edition d l e =
     let p = root_part d in
-    let f =
-    found layer.Refused (preamble_checks d ++ root_checks edition p) (layer.Layer (vector_of Four p) (length_of p)) (layer.Layer v n)
-    (λ r q. let z : ◌≡◌ {A = ℕ} 0 1 = cc in omega arith) e in
-    let same : length_of p ≡ n = cc in
-    omega (arith, within edition d f.0)
+    let f = read_as (preamble_checks d ++ root_checks edition p) (found_in p) l e in
+    let same : length_of p ≡ l.end = ap (λ (x : RootLayer). x.end) f.1 in
+    omega (arith, same, within edition d f.0)

@@ -1,7 +1,8 @@
 -- The preamble and the root layer, in both editions.
-use Rattle.std.specs.Prelude.{ℕ, List, [], ◌∷◌, ◌++◌, length, drop}
+use Rattle.std.specs.Prelude.{ℕ, List, [], ◌∷◌, ◌++◌, length, drop, Result, Ok, Err}
 use Rattle.wire.specs.Fields.{u16_at, u32_at}
 use Rattle.refusal.specs.Check.{Check, check, refusal, preamble, root, fits, ◌≤?◌, ◌=?◌, ◌and◌, ◌or◌, reading}
+use Rattle.refusal.specs.declared.Refusal.{Refusal}
 use Rattle.refusal.specs.declared.Reason.TheVariants as why
 use Rattle.refusal.specs.declared.Field.TheVariants as field_of
 use Rattle.refusal.specs.declared.Start.TheVariants as start_in
@@ -11,8 +12,7 @@ use Rattle.pdu.specs.Head.{head_checks, length_of, vector_of}
 use Rattle.pdu.specs.declared.VectorLength.TheVariants.{Four}
 use Rattle.pdu.specs.declared.Edition.{Edition}
 use Rattle.pdu.specs.declared.Edition.TheVariants.{E2018, E2009}
-use Rattle.root.specs.declared.Root.{Root}
-use Rattle.root.specs.declared.Root.TheVariants.{Layer, Refused}
+use Rattle.root.specs.declared.RootLayer.{RootLayer}
 
 -- 1 if below 16 bytes; 2 for preamble size, postamble, identifier in turn. The identifier is 41 53 43 2d 45 31 2e 31 37 00 00 00.
 abbrev pub preamble_checks : List ℕ → List Check
@@ -45,13 +45,15 @@ body_checks edition p len vec = length_checks p len ++ (vector_checks edition ve
 abbrev pub root_checks : Edition → List ℕ → List Check
 root_checks edition p = head_checks Four root p ++ body_checks edition p (length_of p) (vector_of Four p)
 
-unfoldable pub root_of : Edition → List ℕ → Root
-root_of edition d =
-    reading Refused (preamble_checks d ++ root_checks edition (root_part d)) (Layer (vector_of Four (root_part d)) (length_of (root_part d)))
+abbrev pub found_in : List ℕ → RootLayer
+found_in p = record { vector = vector_of Four p; end = length_of p }
+
+unfoldable pub root_of : Edition → List ℕ → Result RootLayer Refusal
+root_of edition d = reading Err (preamble_checks d ++ root_checks edition (root_part d)) (Ok (found_in (root_part d)))
 
 -- the answer from a place of the list on: after the preamble, after the layer's start
-unfoldable pub layer_of : Edition → List ℕ → Root
-layer_of edition p = reading Refused (root_checks edition p) (Layer (vector_of Four p) (length_of p))
+unfoldable pub layer_of : Edition → List ℕ → Result RootLayer Refusal
+layer_of edition p = reading Err (root_checks edition p) (Ok (found_in p))
 
-unfoldable pub body_of : Edition → List ℕ → ℕ → ℕ → Root
-body_of edition p len vec = reading Refused (body_checks edition p len vec) (Layer vec len)
+unfoldable pub body_of : Edition → List ℕ → ℕ → ℕ → Result RootLayer Refusal
+body_of edition p len vec = reading Err (body_checks edition p len vec) (Ok (record { vector = vec; end = len }))

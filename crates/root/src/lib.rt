@@ -1,12 +1,12 @@
 // The preamble and the root layer, in both editions.
 #![tactic(auto)]
 
-ghost use Rattle.std.specs.Prelude.{◌≡◌};
+ghost use Rattle.std.specs.Prelude.{◌≡◌, Err};
 ghost use Rattle.refusal.specs.Check.{refusal, checked_of, preamble as preamble_place};
 ghost use Rattle.root.specs.Root.{preamble_checks, vector_checks, body_of, layer_of, root_of};
 
-use pdu::{Edition, PduInfo, VectorLength};
-use refusal::{Checked, Refusal};
+use pdu::{Edition, VectorLength};
+use refusal::Refusal;
 use wire::constants::{
     E131_POSTAMBLE_SIZE, E131_PREAMBLE_SIZE, VECTOR_ROOT_E131_DATA, VECTOR_ROOT_E131_EXTENDED,
 };
@@ -21,18 +21,19 @@ const ACN_PACKET_IDENTIFIER_END: u32 = 0x3700_0000;
 
 // A root layer that is read: its vector, and where it ends, from its own first byte.
 #[derive(Clone, Copy)]
-pub enum Root {
-    Layer { vector: u32, end: usize },
-    Refused(Refusal),
+pub struct RootLayer {
+    pub vector: u32,
+    pub end: usize,
 }
 
-fn refuse_preamble(number: u8) -> Checked
-    ensures { result ≡ Checked.Refused (refusal number preamble_place 0) }
+// The preamble's place, said once: at each refusal it would be no plainer.
+fn refuse_preamble<T>(number: u8) -> Result<T, Refusal>
+    ensures { result ≡ Err (refusal number preamble_place 0) }
 {
-    Checked::Refused(Refusal::new(number, refusal::PREAMBLE, 0))
+    refusal::refuse(number, refusal::PREAMBLE, 0)
 }
 
-fn check_preamble(datagram: &[u8]) -> Checked
+fn check_preamble(datagram: &[u8]) -> Result<(), Refusal>
     ensures { result ≡ checked_of (preamble_checks datagram.now) }
 {
     if datagram.len() < PREAMBLE_LENGTH {
@@ -53,65 +54,54 @@ fn check_preamble(datagram: &[u8]) -> Checked
     if wire::u32_at(datagram, 12) != ACN_PACKET_IDENTIFIER_END {
         return refuse_preamble(refusal::INVALID_DATA);
     }
-    Checked::Passed
+    Ok(())
 }
 
 // The 2009 edition knows data packets only.
-fn check_vector(vector: u32, edition: Edition) -> Checked
+fn check_vector(vector: u32, edition: Edition) -> Result<(), Refusal>
     ensures { result ≡ checked_of (vector_checks edition vector) }
 {
     if vector == VECTOR_ROOT_E131_DATA {
-        return Checked::Passed;
+        return Ok(());
     }
-    let refusal = Refusal::new(refusal::INVALID_VECTOR, refusal::ROOT, vector);
+    let refused = refusal::refuse(refusal::INVALID_VECTOR, refusal::ROOT, vector);
     match edition {
-        Edition::E2009 => Checked::Refused(refusal),
+        Edition::E2009 => refused,
         Edition::E2018 => {
             if vector == VECTOR_ROOT_E131_EXTENDED {
-                return Checked::Passed;
+                return Ok(());
             }
-            Checked::Refused(refusal)
+            refused
         }
     }
 }
 
 // The checks after the layer's start.
-fn parse_body(p: &[u8], edition: Edition, length: u16, vector: u32) -> Root
+fn parse_body(p: &[u8], edition: Edition, length: u16, vector: u32) -> Result<RootLayer, Refusal>
     ensures { result ≡ body_of edition p.now length vector }
 {
     let end = length as usize;
     if p.len() < end {
-        return Root::Refused(Refusal::new(
-            refusal::LENGTH_BEYOND_PART,
-            refusal::ROOT,
-            length as u32,
-        ));
+        return refusal::refuse(refusal::LENGTH_BEYOND_PART, refusal::ROOT, length as u32);
     }
-    match check_vector(vector, edition) {
-        Checked::Refused(r) => Root::Refused(r),
-        Checked::Passed => {
-            if end < ROOT_LENGTH {
-                return Root::Refused(Refusal::new(refusal::MISSING_FIELD, refusal::ROOT, 0));
-            }
-            Root::Layer { vector, end }
-        }
+    check_vector(vector, edition)?;
+    if end < ROOT_LENGTH {
+        return refusal::refuse(refusal::MISSING_FIELD, refusal::ROOT, 0);
     }
+    Ok(RootLayer { vector, end })
 }
 
-fn parse_layer(p: &[u8], edition: Edition) -> Root
+fn parse_layer(p: &[u8], edition: Edition) -> Result<RootLayer, Refusal>
     ensures { result ≡ layer_of edition p.now }
 {
-    match pdu::pdu_info(p, VectorLength::Four, refusal::ROOT) {
-        PduInfo::Refused(r) => Root::Refused(r),
-        PduInfo::Info { length, vector } => parse_body(p, edition, length, vector),
-    }
+    let info = pdu::pdu_info(p, VectorLength::Four, refusal::ROOT)?;
+    parse_body(p, edition, info.length, info.vector)
 }
 
-pub fn parse(datagram: &[u8], edition: Edition) -> Root
+// Reads the preamble and the layer.
+pub fn parse(datagram: &[u8], edition: Edition) -> Result<RootLayer, Refusal>
     ensures { result ≡ root_of edition datagram.now }
 {
-    match check_preamble(datagram) {
-        Checked::Refused(r) => Root::Refused(r),
-        Checked::Passed => parse_layer(&datagram[PREAMBLE_LENGTH..], edition),
-    }
+    check_preamble(datagram)?;
+    parse_layer(&datagram[PREAMBLE_LENGTH..], edition)
 }

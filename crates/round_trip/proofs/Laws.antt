@@ -1,24 +1,21 @@
 -- The demand on returned records, of a write's answer p, the buffer and what is read or copied after it. Assumes nothing.
-use Prim.Native.Nat.{ℕ, ◌≤◌}
-use mathlib.Core.Path.{◌≡◌, ap, ◌∙◌}
-use mathlib.Core.List.{List, ◌++◌}
-use lib.ListN.{length, drop}
+use Rattle.std.proofs.Common.{◌≡◌, ℕ, ◌≤◌, List, ◌++◌, length, drop, Ok, Err, Result, ap, ◌∙◌}
+use Rattle.refusal.proofs.Laws.{not_refused}
+use Rattle.packet.specs.Packet.{packet_of}
+use Rattle.parts.specs.Parts.{copied_of}
 use Rattle.discovery.specs.declared.DiscoveryFields.{DiscoveryFields}
-use Rattle.parts.specs.declared.Copied.{Copied}
-use Rattle.parts.specs.declared.Copied.TheVariants as copied
-use Rattle.pack.specs.Writing.{discovery_bytes, discovery_length, after_pack}
-use Rattle.pack.specs.declared.Packed.{Packed}
-use Rattle.pack.specs.declared.Packed.TheVariants.{Length}
+use Rattle.refusal.specs.declared.Refusal.{Refusal}
+use Rattle.pack.specs.Writing.{discovery_bytes, discovery_length, Packed, after_pack}
 use Rattle.demands.specs.Limits.{ReadableDiscovery}
 use Rattle.demands.proofs.Discovery.{return_discovery, copied_discovery}
-use Rattle.round_trip.specs.Trip.{discovery_packed, discovery_left, copied_after, out_after}
+use Rattle.round_trip.specs.Trip.{discovery_packed, copied_after, out_after}
 
 -- What a call promises that writes, and then goes on by the write's answer p, which is `packed`: its own answer r and the buffer at exit, and
 -- what was demanded of what is `seen` of the two. A and B are the readable limits and the room: with them the write is accepted.
 pub trip : {R S A B : Type 0} {packed p : Packed} {n : ℕ} {exit : List ℕ} {r : R} {s : S} (after : Packed → List ℕ → R) (seen : List ℕ → R → S)
     (packet buf : List ℕ) →
     p ≡ packed → exit ≡ after_pack p packet buf → r ≡ after p exit →
-    (A → B → (packed ≡ Length n) × (let d = after_pack (Length n) packet buf in seen d (after (Length n) d) ≡ s)) →
+    (A → B → (packed ≡ Ok n) × (let d = after_pack (Ok n) packet buf in seen d (after (Ok n) d) ≡ s)) →
     (r ≡ after packed exit) × (exit ≡ after_pack packed packet buf) × (A → B → seen exit r ≡ s)
 trip {packed = packed} {n = n} {exit = exit} {r = r} after seen packet buf e x y demand =
     let left : exit ≡ after_pack packed packet buf = x ∙ ap (λ (q : Packed). after_pack q packet buf) e in
@@ -27,12 +24,15 @@ trip {packed = packed} {n = n} {exit = exit} {r = r} after seen packet buf e x y
       left,
       λ a b.
           let w = demand a b in
-          let written : exit ≡ after_pack (Length n) packet buf = left ∙ ap (λ (q : Packed). after_pack q packet buf) w.0 in
+          let written : exit ≡ after_pack (Ok n) packet buf = left ∙ ap (λ (q : Packed). after_pack q packet buf) w.0 in
           rw (answer, w.0, written) w.1,
     )
 
 -- The same for the universes that are copied out of the buffer into `out`, which is `numbers` at exit.
 module _ (cid : List ℕ) (f : DiscoveryFields) (name us buf out : List ℕ) where
+  abbrev Copied : Type 0
+  Copied = Result ℕ Refusal
+
   abbrev after : Packed → List ℕ → Copied
   after q d = copied_after q d (length out)
 
@@ -42,30 +42,25 @@ module _ (cid : List ℕ) (f : DiscoveryFields) (name us buf out : List ℕ) whe
 
   -- the theorems on a written discovery packet, as `trip` asks for them
   accepted : ReadableDiscovery cid f name us → (discovery_length us ≤ length buf) × (length us ≤ length out) →
-      let n = Length (discovery_length us) in
+      let n = Ok (discovery_length us) in
       let d = after_pack n (discovery_bytes cid f name us) buf in
-      (discovery_packed buf name us ≡ n) × (filled d (after n d) ≡ (copied.Universes (length us), us ++ drop (length us) out))
+      (discovery_packed buf name us ≡ n) × (filled d (after n d) ≡ (Ok (length us), us ++ drop (length us) out))
   accepted h k =
-      let d = after_pack (Length (discovery_length us)) (discovery_bytes cid f name us) buf in
+      let d = after_pack (Ok (discovery_length us)) (discovery_bytes cid f name us) buf in
       let w = copied_discovery cid f name us buf out h k.0 k.1 in
-      ((return_discovery cid f name us buf h k.0).0, ap (filled d) w.0 ∙ ap (λ (l : List ℕ). (copied.Universes (length us), l)) w.1)
+      ((return_discovery cid f name us buf h k.0).0, ap (filled d) w.0 ∙ ap (λ (l : List ℕ). (Ok (length us), l)) w.1)
 
-  pub universes_trip : (exit numbers : List ℕ) (p : Packed) (r : Copied) →
-      p ≡ discovery_packed buf name us → exit ≡ after_pack p (discovery_bytes cid f name us) buf →
-      r ≡ copied_after p exit (length out) → numbers ≡ out_after r exit out →
-      (r ≡ copied_after (discovery_packed buf name us) exit (length out))
-      × (exit ≡ discovery_left buf cid f name us)
-      × (numbers ≡ out_after r exit out)
-      × (ReadableDiscovery cid f name us →
-      discovery_length us ≤ length buf →
-      length us ≤ length out →
-      (r ≡ copied.Universes (length us)) × (numbers ≡ us ++ drop (length us) out))
-  universes_trip exit numbers p r e x y z =
-      let t = trip after filled (discovery_bytes cid f name us) buf e x y accepted in (
-        t.0,
-        t.1,
-        z,
-        λ h k m.
-            let same = t.2 h (k, m) in
-            (ap (λ (x : Copied × List ℕ). x.0) same, z ∙ ap (λ (x : Copied × List ℕ). x.1) same),
-      )
+  -- within the limits and the room the write is not refused, and its universes come back
+  pub written : {r : Refusal} → Err r ≡ discovery_packed buf name us →
+      ReadableDiscovery cid f name us → discovery_length us ≤ length buf → length us ≤ length out → ⊥
+  written {r} e h k m = not_refused (discovery_length us) r (e ∙ (accepted h (k, m)).0)
+
+  pub returned : (exit numbers : List ℕ) (n : ℕ) (r : Copied) →
+      Ok n ≡ discovery_packed buf name us → exit ≡ after_pack (Ok n) (discovery_bytes cid f name us) buf →
+      r ≡ copied_of (packet_of exit) (length out) → numbers ≡ out_after r exit out →
+      ReadableDiscovery cid f name us → discovery_length us ≤ length buf → length us ≤ length out →
+      (r ≡ Ok (length us)) × (numbers ≡ us ++ drop (length us) out)
+  returned exit numbers n r e x y z h k m =
+      let t = trip after filled (discovery_bytes cid f name us) buf e x y accepted in
+      let same = t.2 h (k, m) in
+      (ap (λ (x : Copied × List ℕ). x.0) same, z ∙ ap (λ (x : Copied × List ℕ). x.1) same)

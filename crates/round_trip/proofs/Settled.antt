@@ -1,8 +1,6 @@
 -- Demand 1 for the calls that write and read again: two results that satisfy a call's contract are equal, and so are two of each buffer at exit.
 -- Assumes nothing.
-use Prim.Native.Nat.{ℕ}
-use mathlib.Core.Path.{◌≡◌, sym, ◌∙◌}
-use mathlib.Core.List.{List}
+use Rattle.std.proofs.Common.{◌≡◌, ℕ, List, sym, ◌∙◌}
 use Rattle.demands.proofs.Contracts.{SettledWith}
 use Rattle.round_trip.proofs.data_trip.Reads as data-call
 use Rattle.round_trip.proofs.synchronization_trip.Reads as synchronization-call

@@ -4,7 +4,7 @@
 
 mod of_2009;
 
-ghost use Rattle.std.specs.Prelude.{◌≡◌, ◌++◌, ◌≤◌, length, drop};
+ghost use Rattle.std.specs.Prelude.{◌≡◌, ◌++◌, ◌≤◌, length, drop, Ok};
 ghost use Rattle.pack.specs.Writing.{data_length, synchronization_length, discovery_length};
 ghost use Rattle.demands.specs.Content.{content_of, data_content, synchronization_content, discovery_content};
 ghost use Rattle.demands.specs.Limits.{ReadableData, ReadableSynchronization, ReadableDiscovery};
@@ -14,20 +14,19 @@ use discovery::DiscoveryFields;
 use extended::synchronization::SynchronizationFields;
 use framing::DataFields;
 pub use of_2009::{data_trip_2009, discovery_trip_2009, synchronization_trip_2009};
-use pack::Packed;
 use packet::{Packet, Reading};
-use parts::Copied;
+use refusal::Refusal;
 
 // Reads what a write left. A refused write is answered as a refused reading.
-fn read_after(packed: Packed, buf: &[u8]) -> Reading
+fn read_after(packed: Result<usize, Refusal>, buf: &[u8]) -> Reading
     ensures { result ≡ read_after packed buf.now }
 {
     match packed {
-        Packed::Refused(r) => Reading {
+        Err(r) => Reading {
             cid: [0; 16],
             packet: Packet::Refused(r),
         },
-        Packed::Length(_) => packet::parse(buf),
+        Ok(_) => packet::parse(buf),
     }
 }
 
@@ -78,14 +77,12 @@ pub fn universes_trip(
     name: &[u8],
     universes: &[u16],
     out: &mut [u16],
-) -> Copied
+) -> Result<usize, Refusal>
     ensures answer { result ≡ copied_after (discovery_packed buf.old name.now universes.now) buf.new (length out.old) }
     ensures bytes { buf.new ≡ discovery_left buf.old cid fields name.now universes.now }
     ensures numbers { out.new ≡ out_after result buf.new out.old }
-    ensures returned { ReadableDiscovery cid fields name.now universes.now → discovery_length universes.now ≤ length buf.old → length universes.now ≤ length out.old → (result ≡ Copied.Universes (length universes.now)) × (out.new ≡ universes.now ++ drop (length universes.now) out.old) }
+    ensures returned { ReadableDiscovery cid fields name.now universes.now → discovery_length universes.now ≤ length buf.old → length universes.now ≤ length out.old → (result ≡ Ok (length universes.now)) × (out.new ≡ universes.now ++ drop (length universes.now) out.old) }
 {
-    match pack::pack_discovery(buf, cid, fields, name, universes) {
-        Packed::Refused(r) => Copied::Refused(r),
-        Packed::Length(_) => parts::copy_universes(buf, out),
-    }
+    pack::pack_discovery(buf, cid, fields, name, universes)?;
+    parts::copy_universes(buf, out)
 }

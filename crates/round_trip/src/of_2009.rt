@@ -11,18 +11,18 @@ use discovery::DiscoveryFields;
 use edition2009::{Packet2009, Reading2009};
 use extended::synchronization::SynchronizationFields;
 use framing::DataFields;
-use pack::Packed;
+use refusal::Refusal;
 
 // Reads what a write left. A refused write is answered as a refused reading.
-fn read_after_2009(packed: Packed, buf: &[u8]) -> Reading2009
+fn read_after_2009(packed: Result<usize, Refusal>, buf: &[u8]) -> Reading2009
     ensures { result ≡ read_after2009 packed buf.now }
 {
     match packed {
-        Packed::Refused(r) => Reading2009 {
+        Err(r) => Reading2009 {
             cid: [0; 16],
             packet: Packet2009::Refused(r),
         },
-        Packed::Length(_) => edition2009::parse(buf),
+        Ok(_) => edition2009::parse(buf),
     }
 }
 

@@ -9,32 +9,18 @@ const LATE_ABOVE: i8 = -20;
 
 const LATE_UP_TO: i8 = 0;
 
-// Eight bits, read as signed. `as` is for numbers that fit: one above 127 is counted down from -1 instead.
-fn signed(bits: u8) -> i8
-    ensures { result ≡ signed_of bits }
-{
-    if bits < 128 {
-        bits as i8
-    } else {
-        let down = (255 - bits) as i8;
-        -1 - down
-    }
-}
-
 // The new number minus the last, in eight bits, wrapping, read as signed.
 pub fn difference(new: u8, last: u8) -> i8
     ensures { result ≡ signed_of (difference_of new last) }
 {
-    signed(std::num::wrapping_sub_u8(new, last))
+    new.wrapping_sub(last).cast_signed()
 }
 
 // Whether a number is one to discard after the last one (E1.31-2018, section 6.7.2).
+#[tactic(auto, unfolding(crate::specs::Sequence::late_of))]
 pub fn late(new: u8, last: u8) -> bool
     ensures { result ≡ late_of new last }
 {
     let distance = difference(new, last);
-    if distance <= LATE_UP_TO {
-        return LATE_ABOVE < distance;
-    }
-    false
+    distance <= LATE_UP_TO && LATE_ABOVE < distance
 }

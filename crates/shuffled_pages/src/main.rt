@@ -6,8 +6,9 @@ mod foreign;
 mod refused;
 mod shuffled;
 
-use page_collector::{Answer, Collected, Collector};
+use page_collector::{Answer, Collector};
 use std::io;
+use text::Text;
 
 const CID: [u8; 16] = [7; 16];
 
@@ -38,42 +39,36 @@ fn number_at(i: usize, ascending: bool) -> u16 {
 }
 
 pub(crate) fn fill(list: &mut [u16], ascending: bool) {
-    let mut i = 0;
-    while i < list.len() {
-        list[i] = number_at(i, ascending);
-        i += 1;
+    for (i, n) in list.iter_mut().enumerate() {
+        *n = number_at(i, ascending);
     }
 }
 
 // A page of a list, written and fed.
 pub(crate) fn fed(
-    collector: Collector,
+    collector: &mut Collector,
     cid: [u8; 16],
     page: u8,
     sent: &[u16],
     memory: &mut [u16],
     list: &mut [u16],
-) -> Collected {
+) -> Answer {
     let mut packet = [0; PACKET_ROOM];
-    universe_pages::pack_page(&mut packet, cid, page, b"desk", sent);
-    page_collector::collect(collector, &packet, memory, list)
+    let _ = universe_pages::pack_page(&mut packet, cid, page, b"desk", sent);
+    collector.collect(&packet, memory, list)
 }
 
-pub(crate) fn put_number(out: &mut [u8], at: usize, word: &[u8], n: u16) -> usize {
-    text::put_field(out, at, word, n as u64)
-}
-
-pub(crate) fn put_answer(out: &mut [u8], at: usize, answer: Answer) -> usize {
+pub(crate) fn put_answer(out: &mut Text, answer: Answer) {
     match answer {
-        Answer::Kept => text::put(out, at, b" kept"),
-        Answer::List { count } => text::put_field(out, at, b" list of ", count as u64),
-        Answer::Refused(r) => field_text::put_refusal(out, at, r),
+        Ok(None) => out.put(b" kept"),
+        Ok(Some(count)) => out.put_field(b" list of ", count as u64),
+        Err(r) => field_text::put_refusal(out, r),
     }
 }
 
-pub(crate) fn end_line(rt: &impl Print, out: &mut [u8], at: usize) -> io::Result<()> {
-    let end = text::put(out, at, b"\n");
-    rt.write_all(wire::part(out, 0, end))
+pub(crate) fn end_line(rt: &impl Print, out: &mut Text) -> io::Result<()> {
+    out.put(b"\n");
+    rt.write_all(out.written())
 }
 
 fn main(rt: HostRuntime) -> io::Result<()> {

@@ -1,17 +1,18 @@
 // What is refused, by the page writer and by the collector, with what stays as it was.
 use crate::{CID, LINE_ROOM, OTHER_CID, PACKET_ROOM};
 use extended::synchronization::SynchronizationFields;
-use pack::Packed;
 use page_collector::{Answer, Collector};
+use refusal::Refusal;
 use std::io;
+use text::Text;
 
 // Two pages, and one universe on a third.
 const MANY: usize = 1025;
 
-fn put_packed(out: &mut [u8], at: usize, packed: Packed) -> usize {
+fn put_packed(out: &mut Text, packed: Result<usize, Refusal>) {
     match packed {
-        Packed::Length(n) => text::put_field(out, at, b" written ", n as u64),
-        Packed::Refused(r) => field_text::put_refusal(out, at, r),
+        Ok(n) => out.put_field(b" written ", n as u64),
+        Err(r) => field_text::put_refusal(out, r),
     }
 }
 
@@ -27,10 +28,11 @@ fn write(
     let mut packet = [0; PACKET_ROOM];
     let room = wire::least(room, PACKET_ROOM);
     let packed = universe_pages::pack_page(&mut packet[0..room], CID, page, name, universes);
-    let mut out = [0; LINE_ROOM];
-    let at = text::put(&mut out, 0, words);
-    let at = put_packed(&mut out, at, packed);
-    crate::end_line(rt, &mut out, at)
+    let mut line = [0; LINE_ROOM];
+    let mut out = Text::new(&mut line);
+    out.put(words);
+    put_packed(&mut out, packed);
+    crate::end_line(rt, &mut out)
 }
 
 // How many pages a list has.
@@ -64,69 +66,66 @@ fn faults_of_the_list(rt: &impl Print, words: &[u8], many: &[u16]) -> io::Result
 }
 
 fn tell(rt: &impl Print, words: &[u8], answer: Answer) -> io::Result<()> {
-    let mut out = [0; LINE_ROOM];
-    let at = text::put(&mut out, 0, words);
-    let at = crate::put_answer(&mut out, at, answer);
-    crate::end_line(rt, &mut out, at)
+    let mut line = [0; LINE_ROOM];
+    let mut out = Text::new(&mut line);
+    out.put(words);
+    crate::put_answer(&mut out, answer);
+    crate::end_line(rt, &mut out)
 }
 
 // Feeds what is no page, and tells what became of it.
 fn feed_other(
     rt: &impl Print,
     words: &[u8],
-    collector: Collector,
+    collector: &mut Collector,
     datagram: &[u8],
     memory: &mut [u16],
     list: &mut [u16],
-) -> io::Result<Collector> {
-    let done = page_collector::collect(collector, datagram, memory, list);
-    let answer = done.answer;
-    tell(rt, words, answer)?;
-    Ok(done.collector)
+) -> io::Result<()> {
+    let answer = collector.collect(datagram, memory, list);
+    tell(rt, words, answer)
 }
 
 fn feed_others(
     rt: &impl Print,
-    collector: Collector,
+    collector: &mut Collector,
     memory: &mut [u16],
     list: &mut [u16],
-) -> io::Result<Collector> {
+) -> io::Result<()> {
     let mut packet = [0; 49];
     let fields = SynchronizationFields {
         sequence_number: 7,
         synchronization_address: 8000,
     };
-    pack::pack_synchronization(&mut packet, CID, fields);
-    let collector = feed_other(rt, b"a sync packet:", collector, &packet, memory, list)?;
+    let _ = pack::pack_synchronization(&mut packet, CID, fields);
+    feed_other(rt, b"a sync packet:", collector, &packet, memory, list)?;
     feed_other(rt, b"nothing:", collector, b"", memory, list)
 }
 
 fn feed_page(
     rt: &impl Print,
     words: &[u8],
-    collector: Collector,
+    collector: &mut Collector,
     cid: [u8; 16],
     page: u8,
     sent: &[u16],
     memory: &mut [u16],
     list: &mut [u16],
-) -> io::Result<Collector> {
-    let done = crate::fed(collector, cid, page, sent, memory, list);
-    let answer = done.answer;
-    tell(rt, words, answer)?;
-    Ok(done.collector)
+) -> io::Result<()> {
+    let answer = crate::fed(collector, cid, page, sent, memory, list);
+    tell(rt, words, answer)
 }
 
 // One number less than two pages need.
 fn feed_without_room(
     rt: &impl Print,
-    collector: Collector,
+    collector: &mut Collector,
     sent: &[u16],
     memory: &mut [u16],
     list: &mut [u16],
-) -> io::Result<Collector> {
+) -> io::Result<()> {
     let mut less = [0; 1023];
-    let collector = feed_page(
+    feed_page(
         rt,
         b"memory of 1023:",
         collector,
@@ -151,14 +150,14 @@ fn feed_without_room(
 // What is refused between two pages, and moves nothing.
 fn feed_between(
     rt: &impl Print,
-    collector: Collector,
+    collector: &mut Collector,
     sent: &[u16],
     memory: &mut [u16],
     list: &mut [u16],
-) -> io::Result<Collector> {
+) -> io::Result<()> {
     let words = b"another desk, no room:";
-    let collector = feed_others(rt, collector, memory, list)?;
-    let collector = feed_page(rt, words, collector, OTHER_CID, 0, sent, &mut [], &mut [])?;
+    feed_others(rt, collector, memory, list)?;
+    feed_page(rt, words, collector, OTHER_CID, 0, sent, &mut [], &mut [])?;
     feed_without_room(rt, collector, sent, memory, list)
 }
 
@@ -169,11 +168,10 @@ fn collecting(
     list: &mut [u16],
 ) -> io::Result<()> {
     let sent = crate::first(many, 513);
-    let collector = Collector::new(CID);
-    let collector = feed_page(rt, b"page 1 of 513:", collector, CID, 1, sent, memory, list)?;
-    let collector = feed_between(rt, collector, sent, memory, list)?;
-    feed_page(rt, b"page 0 of 513:", collector, CID, 0, sent, memory, list)?;
-    Ok(())
+    let own = &mut Collector::new(CID);
+    feed_page(rt, b"page 1 of 513:", own, CID, 1, sent, memory, list)?;
+    feed_between(rt, own, sent, memory, list)?;
+    feed_page(rt, b"page 0 of 513:", own, CID, 0, sent, memory, list)
 }
 
 pub(crate) fn cases(rt: &impl Print, memory: &mut [u16], list: &mut [u16]) -> io::Result<()> {

@@ -2,6 +2,7 @@
 use crate::{CID, LINE_ROOM, OTHER_CID, SPOILT};
 use page_collector::{Answer, Collector};
 use std::io;
+use text::Text;
 
 const MOST_UNIVERSES: usize = 63_999;
 
@@ -13,7 +14,7 @@ const FIRST: usize = 3;
 
 // How many pages were kept, how often all were there, how many of another desk were refused; and how many universes the
 // last list had.
-#[derive(Clone, Copy)]
+#[derive(Clone, Copy, Default)]
 struct Tally {
     kept: u64,
     lists: u64,
@@ -28,23 +29,18 @@ fn one_more(n: u64) -> u64 {
 
 fn counted(tally: Tally, answer: Answer) -> Tally {
     match answer {
-        Answer::Kept => Tally {
+        Ok(None) => Tally {
             kept: one_more(tally.kept),
-            lists: tally.lists,
-            refused: tally.refused,
-            count: tally.count,
+            ..tally
         },
-        Answer::List { count } => Tally {
-            kept: tally.kept,
+        Ok(Some(count)) => Tally {
             lists: one_more(tally.lists),
-            refused: tally.refused,
             count,
+            ..tally
         },
-        Answer::Refused(_) => Tally {
-            kept: tally.kept,
-            lists: tally.lists,
+        Err(_) => Tally {
             refused: one_more(tally.refused),
-            count: tally.count,
+            ..tally
         },
     }
 }
@@ -61,56 +57,21 @@ fn page_at(i: usize, pages: usize) -> u8 {
 
 // Whether the list that came out is the one that was sent.
 fn same(sent: &[u16], list: &[u16]) -> bool {
-    let mut i = 0;
-    while i < sent.len() {
-        if list.len() <= i {
-            return false;
-        }
-        if sent[i] != list[i] {
-            return false;
-        }
-        i += 1;
-    }
-    true
-}
-
-#[derive(Clone, Copy)]
-struct Standing {
-    collector: Collector,
-    tally: Tally,
+    list.starts_with(sent)
 }
 
 // A page of ours, and the same page of another desk.
 fn turn(
-    standing: Standing,
+    collector: &mut Collector,
+    tally: Tally,
     page: u8,
     sent: &[u16],
     memory: &mut [u16],
     list: &mut [u16],
-) -> Standing {
-    let collector = standing.collector;
-    let tally = standing.tally;
+) -> Tally {
     let ours = crate::fed(collector, CID, page, sent, memory, list);
-    let collector = ours.collector;
-    let answer = ours.answer;
-    let tally = counted(tally, answer);
     let theirs = crate::fed(collector, OTHER_CID, page, sent, memory, list);
-    let collector = theirs.collector;
-    let answer = theirs.answer;
-    let tally = counted(tally, answer);
-    Standing { collector, tally }
-}
-
-fn begun() -> Standing {
-    Standing {
-        collector: Collector::new(CID),
-        tally: Tally {
-            kept: 0,
-            lists: 0,
-            refused: 0,
-            count: 0,
-        },
-    }
+    counted(counted(tally, ours), theirs)
 }
 
 fn collected(
@@ -120,20 +81,20 @@ fn collected(
     memory: &mut [u16],
     list: &mut [u16],
 ) -> Tally {
-    let mut standing = begun();
-    let mut i = 0;
-    while i < turns {
-        standing = turn(standing, page_at(i, pages), sent, memory, list);
-        i += 1;
+    let mut collector = Collector::new(CID);
+    let mut tally = Tally::default();
+    for i in 0..turns {
+        let page = page_at(i, pages);
+        tally = turn(&mut collector, tally, page, sent, memory, list);
     }
-    standing.tally
+    tally
 }
 
-fn put_tally(out: &mut [u8], at: usize, tally: Tally) -> usize {
-    let at = text::put_field(out, at, b": kept ", tally.kept);
-    let at = text::put_field(out, at, b", list ", tally.lists);
-    let at = text::put_field(out, at, b", another desk refused ", tally.refused);
-    text::put_field(out, at, b"; at last a list of ", tally.count as u64)
+fn put_tally(out: &mut Text, tally: Tally) {
+    out.put_field(b": kept ", tally.kept);
+    out.put_field(b", list ", tally.lists);
+    out.put_field(b", another desk refused ", tally.refused);
+    out.put_field(b"; at last a list of ", tally.count as u64);
 }
 
 // Whether the list is the one that was sent, in its length, too, and nothing behind it was touched.
@@ -150,22 +111,20 @@ fn came_back(sent: &[u16], count: usize, list: &[u16]) -> bool {
 }
 
 // The first number of the list and its last one.
-fn put_ends(out: &mut [u8], at: usize, count: usize, list: &[u16]) -> usize {
-    if count == 0 {
-        return at;
+fn put_ends(out: &mut Text, count: usize, list: &[u16]) {
+    if count == 0 || list.len() < count {
+        return;
     }
-    if list.len() < count {
-        return at;
-    }
-    let at = crate::put_number(out, at, b", from ", list[0]);
-    crate::put_number(out, at, b" to ", list[count - 1])
+    out.put_field(b", from ", list[0] as u64);
+    out.put_field(b" to ", list[count - 1] as u64);
 }
 
-fn put_verdict(out: &mut [u8], at: usize, same: bool) -> usize {
-    if same {
-        return text::put(out, at, b", as it was sent");
-    }
-    text::put(out, at, b", and not what was sent")
+fn put_verdict(out: &mut Text, same: bool) {
+    out.put(if same {
+        b", as it was sent"
+    } else {
+        b", and not what was sent"
+    });
 }
 
 fn tell(
@@ -177,14 +136,15 @@ fn tell(
     list: &[u16],
 ) -> io::Result<()> {
     let count = tally.count;
-    let mut out = [0; LINE_ROOM];
-    let at = text::put_field(&mut out, 0, b"universes ", sent.len() as u64);
-    let at = text::put_field(&mut out, at, b", pages ", pages as u64);
-    let at = text::put_field(&mut out, at, b", fed ", turns as u64);
-    let at = put_tally(&mut out, at, tally);
-    let at = put_ends(&mut out, at, count, list);
-    let at = put_verdict(&mut out, at, came_back(sent, count, list));
-    crate::end_line(rt, &mut out, at)
+    let mut line = [0; LINE_ROOM];
+    let mut out = Text::new(&mut line);
+    out.put_field(b"universes ", sent.len() as u64);
+    out.put_field(b", pages ", pages as u64);
+    out.put_field(b", fed ", turns as u64);
+    put_tally(&mut out, tally);
+    put_ends(&mut out, count, list);
+    put_verdict(&mut out, came_back(sent, count, list));
+    crate::end_line(rt, &mut out)
 }
 
 // A list of n universes, which makes so many pages.

@@ -1,5 +1,5 @@
 -- What the system answers: the values that this crate alone can make, each from the one before it, and what each says.
-use Rattle.std.specs.Prelude.{ℕ, ◌+◌, ◌-◌, ◌%◌, ◌<◌, ◌≤◌, Bool, true, false, ℤ, pos, negsuc}
+use Rattle.std.specs.Prelude.{ℕ, ◌+◌, ◌-◌, ◌%◌, ◌<◌, ◌≤◌, Bool, true, false, Result, Ok, Err}
 use Rattle.refusal.specs.Check.{◌=?◌, choose}
 use Rattle.standard_io.specs.declared.Said.{Said}
 use Rattle.standard_io.specs.declared.Said.TheVariants.{Nothing, Bytes, End, Error}
@@ -40,10 +40,10 @@ nothing_written = record { all = true; total = 0 }
 abbrev pub kept_after : Wrote → Wrote
 kept_after w = record { all = w.all; total = counted w.total 0 }
 
--- what the number that a read answers says, where it moved `count` bytes behind the first n: below zero an error, no bytes the end
-abbrev pub said_of : ℤ → ℕ → ℕ → Said
-said_of (pos k) count n = choose (count =? 0) End (Bytes (n + count))
-said_of (negsuc k) count n = Error
+-- what a read's answer says, where it moved `count` bytes behind the first n: no bytes are the end
+abbrev pub said_of : {E : Type 0} → Result ℕ E → ℕ → Said
+said_of (Ok count) n = choose (count =? 0) End (Bytes (n + count))
+said_of (Err e) n = Error
 
 -- one read: some bytes behind the first n, within the block; or the end, where a byte was asked for
 abbrev pub Arrived : ℕ → ℕ → Said → Type 0

@@ -3,9 +3,10 @@
 // from the one before it, with a count of all bytes so far.
 #![tactic(auto)]
 
-ghost use Rattle.std.specs.Prelude.{◌≡◌, ◌+◌, ◌<◌, length, take};
+ghost use Rattle.std.specs.Prelude.{◌≡◌, ◌+◌, ◌^◌, ◌<◌, IfOk, length, take};
 ghost use Rattle.standard_io.specs.System.{counted, said_of, reached_by, is_error, Arrived, nothing_heard, quiet_after, heard_after, nothing_written, kept_after};
 
+use std::io;
 use std::io::Read;
 
 // To a read: so many bytes are in the block now, the input ends, or an error. Nothing is said where none was made.
@@ -35,74 +36,31 @@ pub struct Wrote {
 fn count_on(total: u64, more: usize) -> u64
     ensures { result ≡ counted total more }
 {
-    std::num::wrapping_add_u64(total, more as u64)
-}
-
-// Before any read.
-pub fn nothing_heard() -> Heard
-    ensures { result ≡ nothing_heard }
-{
-    Heard {
-        said: Said::Nothing,
-        total: 0,
-    }
-}
-
-// Where no read is made.
-pub fn quiet(heard: Heard) -> Heard
-    ensures { result ≡ quiet_after heard }
-{
-    Heard {
-        said: Said::Nothing,
-        total: count_on(heard.total, 0),
-    }
-}
-
-fn reach(said: Said, len: usize) -> usize
-    ensures { result ≡ reached_by said len }
-{
-    match said {
-        Said::Bytes { len: more } => more,
-        Said::Nothing => len,
-        Said::End => len,
-        Said::Error => len,
-    }
+    total.wrapping_add(more as u64)
 }
 
 // How many bytes of the block are there, of which len were before the read.
-pub fn reached(heard: Heard, len: usize) -> usize
-    ensures { result ≡ reached_by heard.said len }
+fn reach(said: Said, len: usize) -> usize
+    ensures { result ≡ reached_by said len }
 {
-    let said = heard.said;
-    reach(said, len)
-}
-
-pub fn failed(heard: Heard) -> bool
-    ensures { result ≡ is_error heard.said }
-{
-    let said = heard.said;
-    match said {
-        Said::Nothing => false,
-        Said::Bytes { len: _ } => false,
-        Said::End => false,
-        Said::Error => true,
+    if let Said::Bytes { len: more } = said {
+        more
+    } else {
+        len
     }
 }
 
-// What an answer to a read says, of which `count` bytes count, behind the first len.
+// What an answer to a read says, behind the first len bytes.
 #[tactic(auto, using(crate::proofs::Laws::ended_read, crate::proofs::Laws::bytes_read))]
-fn answered(got: isize, count: usize, len: usize) -> Said
-    requires { len + count < 0x1_0000_0000_0000_0000 }
-    ensures { result ≡ said_of got count len }
+fn answered(answer: io::Result<usize>, len: usize) -> Said
+    requires { IfOk answer (λ count. len + count < 2 ^ 64) }
+    ensures { result ≡ said_of answer len }
 {
-    if got < 0 {
-        return Said::Error;
+    match answer {
+        Ok(0) => Said::End,
+        Ok(count) => Said::Bytes { len: len + count },
+        Err(_) => Said::Error,
     }
-    if count == 0 {
-        return Said::End;
-    }
-    let len = len + count;
-    Said::Bytes { len }
 }
 
 // Reads once, behind the first len bytes of the block; std's reader takes nothing ahead. A block with no room is an
@@ -114,48 +72,55 @@ fn ask(rt: &impl Input, block: &mut [u8], len: usize) -> Said
     if block.len() <= len {
         return Said::Error;
     }
-    match rt.reader().read(&mut block[len..]) {
-        Ok(count) => answered(count as isize, count, len),
-        Err(_) => answered(-1, 0, len),
-    }
+    answered(rt.reader().read(&mut block[len..]), len)
 }
 
-pub fn read_more(rt: &impl Input, block: &mut [u8], len: usize, heard: Heard) -> Heard
-    ensures block_unchanged { take len block.new ≡ take len block.old }
-    ensures arrived { Arrived len (length block.old) result.said × (result ≡ heard_after heard result.said len) }
-{
-    let said = ask(rt, block, len);
-    let more = reach(said, len) - len;
-    Heard {
-        said,
-        total: count_on(heard.total, more),
+impl Heard {
+    // Before any read.
+    pub fn nothing() -> Heard
+        ensures { result ≡ nothing_heard }
+    {
+        Heard {
+            said: Said::Nothing,
+            total: 0,
+        }
     }
-}
 
-// Before any text.
-pub fn nothing_written() -> Wrote
-    ensures { result ≡ nothing_written }
-{
-    Wrote {
-        all: true,
-        total: 0,
+    // Where no read is made.
+    pub fn quiet(self) -> Heard
+        ensures { result ≡ quiet_after self }
+    {
+        Heard {
+            said: Said::Nothing,
+            total: count_on(self.total, 0),
+        }
     }
-}
 
-// Text that stays in its buffer.
-pub fn kept(wrote: Wrote) -> Wrote
-    ensures { result ≡ kept_after wrote }
-{
-    Wrote {
-        all: wrote.all,
-        total: count_on(wrote.total, 0),
+    // How many bytes of the block are there, of which len were before the read.
+    pub fn reached(self, len: usize) -> usize
+        ensures { result ≡ reached_by self.said len }
+    {
+        reach(self.said, len)
     }
-}
 
-pub fn took_all(wrote: Wrote) -> bool
-    ensures { result ≡ wrote.all }
-{
-    wrote.all
+    pub fn failed(self) -> bool
+        ensures { result ≡ is_error self.said }
+    {
+        matches!(self.said, Said::Error)
+    }
+
+    // Reads once, behind the first len bytes of the block.
+    pub fn read_more(self, rt: &impl Input, block: &mut [u8], len: usize) -> Heard
+        ensures block_unchanged { take len block.new ≡ take len block.old }
+        ensures arrived { Arrived len (length block.old) result.said × (result ≡ heard_after self result.said len) }
+    {
+        let said = ask(rt, block, len);
+        let more = reach(said, len) - len;
+        Heard {
+            said,
+            total: count_on(self.total, more),
+        }
+    }
 }
 
 // Tells on standard error, in a line, what failed. Where that fails too, there is nobody left to tell.
@@ -163,15 +128,41 @@ pub fn tell_failure(rt: &impl Eprint, failure: &str) {
     let _ = rt.eprintln(failure);
 }
 
-pub fn write(rt: &(impl Print + Eprint), text: &[u8], wrote: Wrote) -> Wrote
-    ensures { result.total ≡ counted wrote.total (length text.now) }
-{
-    let all = rt.write_all(text).is_ok();
-    if !all {
-        tell_failure(rt, "write failed");
+impl Wrote {
+    // Before any text.
+    pub fn nothing() -> Wrote
+        ensures { result ≡ nothing_written }
+    {
+        Wrote {
+            all: true,
+            total: 0,
+        }
     }
-    Wrote {
-        all,
-        total: count_on(wrote.total, text.len()),
+
+    // Text that stays in its buffer.
+    pub fn kept(self) -> Wrote
+        ensures { result ≡ kept_after self }
+    {
+        let total = count_on(self.total, 0);
+        Wrote { total, ..self }
+    }
+
+    pub fn took_all(self) -> bool
+        ensures { result ≡ self.all }
+    {
+        self.all
+    }
+
+    pub fn write(self, rt: &(impl Print + Eprint), text: &[u8]) -> Wrote
+        ensures { result.total ≡ counted self.total (length text.now) }
+    {
+        let all = rt.write_all(text).is_ok();
+        if !all {
+            tell_failure(rt, "write failed");
+        }
+        Wrote {
+            all,
+            total: count_on(self.total, text.len()),
+        }
     }
 }

@@ -1,9 +1,7 @@
 -- What the digits of a number are: one for a number up to 9, else those of its tenth and one more. Assumes nothing.
-use Prim.Native.Nat.{ℕ, zero, suc, ◌+◌, ◌-◌, ◌*◌, ◌/◌, ◌%◌, ◌≤◌, ◌<◌}
-use mathlib.Core.Path.{◌≡◌, refl, sym, ap, ◌∙◌}
-use mathlib.Core.List.{List, [], ◌∷◌, ◌++◌}
-use native.Mathlib.Omega.{arith}
-use lib.ListN.{length, length-append}
+use Rattle.std.proofs.Common.{◌≡◌, ℕ, zero, suc, ◌+◌, ◌-◌, ◌*◌, ◌/◌, ◌%◌, ◌^◌, ◌≤◌, ◌<◌, List, [], ◌∷◌, ◌++◌, length, refl, sym, ap, ◌∙◌, arith, length-append}
+use Rattle.std.specs.Fmt.{decimal as printed}
+use Rattle.std.proofs.lemmas.Fmt.{decimal_by_steps}
 use Rattle.refusal.specs.Check.{◌≤?◌}
 use Rattle.refusal.proofs.Tests.{chosen, passed_over, decide}
 use Rattle.text.specs.Digits.{last_digits, decimal}
@@ -34,6 +32,11 @@ decimal_one n h = last_one n n h
 pub decimal_more : (n : ℕ) → 9 < n → decimal n ≡ decimal (n / 10) ++ ((0x30 + n % 10) ∷ [])
 unfolding decimal
 decimal_more n h = last_more n n h ∙ ap (λ (l : List ℕ). l ++ ((0x30 + n % 10) ∷ [])) (enough n (suc (n / 10)) (n / 10) (omega arith) (omega arith))
+
+-- they are what `{}` prints of a number of 64 bits
+pub decimal_printed : (n : ℕ) → n < 2 ^ 64 → printed n ≡ decimal n
+decimal_printed = decimal_by_steps (λ m ds. ds ≡ decimal m) (λ m l. sym (decimal_one m (omega arith)))
+    (λ m ds l h. ap (λ (x : List ℕ). x ++ ((0x30 + m % 10) ∷ [])) h ∙ sym (decimal_more m l))
 
 -- a number below ten to the k has at most k digits
 abbrev pub tens : ℕ → ℕ

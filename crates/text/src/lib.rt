@@ -1,68 +1,26 @@
-// Text put into a lent buffer: words, numbers in decimal, bytes in hex. Every call takes every place: what
-// runs past the end is left out, and the next place is then the end.
+// Text put into a lent buffer: words, numbers in decimal, bytes in hex. What runs past the buffer's end is left out,
+// and the text then ends at its end.
 #![tactic(auto)]
 
-ghost use Rattle.std.specs.Prelude.{◌≡◌, ◌++◌, ◌+◌, ◌<◌, min, length, drop};
-ghost use Rattle.text.specs.Put.{Put};
+ghost use Rattle.std.specs.Prelude.{◌≡◌, ◌++◌, ◌+◌, ◌<◌, min, length, take};
+ghost use Rattle.text.specs.Put.{Put, emptied};
 ghost use Rattle.text.specs.Digits.{decimal, hex_digit, hex_byte, hex};
-
-// A u64 has at most 20 digits.
-const MOST_DIGITS: usize = 20;
 
 // A byte in hex has two digits.
 const HEX_BYTE: usize = 2;
+
+// The text so far is the first `len` bytes of the buffer.
+#[derive(Drop)]
+pub struct Text<'a> {
+    pub bytes: &'a mut [u8],
+    pub len: usize,
+}
 
 // The place behind n bytes at `at`, or the end where they run past it.
 fn place_behind(end: usize, at: usize, n: usize) -> usize
     ensures { result ≡ min (at + n) end }
 {
-    if end < at {
-        return end;
-    }
-    if end - at < n {
-        return end;
-    }
-    at + n
-}
-
-pub fn put(out: &mut [u8], at: usize, s: &[u8]) -> usize
-    ensures { Put out.old out.new at result s.now }
-{
-    wire::copy(out, at, s);
-    place_behind(out.len(), at, s.len())
-}
-
-// Spells n at the end of `digits`, the last digit first, and answers where it starts.
-fn spell(digits: &mut [u8], n: u64) -> usize
-    requires { length digits.old ≡ 20 }
-    ensures upper_bound { result < 20 }
-    ensures digits_after { drop result digits.new ≡ decimal n }
-{
-    let mut at = MOST_DIGITS - 1;
-    let mut rest = n;
-    while 9 < rest {
-        digits[at] = b'0' + (rest % 10) as u8;
-        rest /= 10;
-        at -= 1;
-    }
-    digits[at] = b'0' + rest as u8;
-    at
-}
-
-pub fn put_decimal(out: &mut [u8], at: usize, n: u64) -> usize
-    ensures { Put out.old out.new at result (decimal n) }
-{
-    let mut digits = [0; MOST_DIGITS];
-    let start = spell(&mut digits, n);
-    put(out, at, &digits[start..MOST_DIGITS])
-}
-
-// A word, and a number behind it.
-pub fn put_field(out: &mut [u8], at: usize, word: &[u8], n: u64) -> usize
-    ensures { Put out.old out.new at result (word.now ++ decimal n) }
-{
-    let next = put(out, at, word);
-    put_decimal(out, next, n)
+    at.saturating_add(n).min(end)
 }
 
 fn hex_digit(x: u8) -> u8
@@ -72,28 +30,71 @@ fn hex_digit(x: u8) -> u8
     if x < 10 { b'0' + x } else { b'a' + (x - 10) }
 }
 
-// As one number of two bytes: a copy of two bytes would cost more.
-fn put_hex_byte(out: &mut [u8], at: usize, b: u8) -> usize
-    ensures { Put out.old out.new at result (hex_byte b) }
-{
-    let high = hex_digit(b / 16) as u16;
-    let low = hex_digit(b % 16) as u16;
-    wire::put_u16(out, at, high * 0x100 + low);
-    place_behind(out.len(), at, HEX_BYTE)
-}
+impl<'a> Text<'a> {
+    // No text yet, in the whole buffer.
+    pub fn new(bytes: &'a mut [u8]) -> Text<'a>
+        ensures empty { result.len ≡ 0 }
+        ensures bytes { result.bytes.now ≡ bytes.old }
+        ensures same_reference { result.bytes.ghost_name ≡ bytes.entry.ghost_name }
+    {
+        Text { bytes, len: 0 }
+    }
 
-// Two digits a byte, in lower case; `-` where there are no bytes.
-pub fn put_hex(out: &mut [u8], at: usize, s: &[u8]) -> usize
-    ensures { Put out.old out.new at result (hex s.now) }
-{
-    if s.len() == 0 {
-        return put(out, at, b"-");
+    // The text so far.
+    pub fn written(&self) -> &[u8]
+        ensures { result.now ≡ take self.now.len self.now.bytes.now }
+    {
+        &self.bytes[..self.len.min(self.bytes.len())]
     }
-    let mut next = put_hex_byte(out, at, s[0]);
-    let mut i = 1;
-    while i < s.len() {
-        next = put_hex_byte(out, next, s[i]);
-        i += 1;
+
+    // The text goes, and the buffer's bytes stay.
+    pub fn clear(&mut self)
+        ensures { self.new ≡ emptied self.old }
+    {
+        self.len = 0;
     }
-    next
+
+    pub fn put(&mut self, s: &[u8])
+        ensures { Put self.old self.new s.now }
+    {
+        wire::copy(self.bytes, self.len, s);
+        self.len = place_behind(self.bytes.len(), self.len, s.len());
+    }
+
+    pub fn put_decimal(&mut self, n: u64)
+        ensures { Put self.old self.new (decimal n) }
+    {
+        let mut digits = itoa::Buffer::new();
+        self.put(digits.format(n).as_bytes());
+    }
+
+    // A word, and a number behind it.
+    pub fn put_field(&mut self, word: &[u8], n: u64)
+        ensures { Put self.old self.new (word.now ++ decimal n) }
+    {
+        self.put(word);
+        self.put_decimal(n);
+    }
+
+    // As one number of two bytes: a copy of two bytes would cost more.
+    fn put_hex_byte(&mut self, b: u8)
+        ensures { Put self.old self.new (hex_byte b) }
+    {
+        let high = hex_digit(b / 16) as u16;
+        let low = hex_digit(b % 16) as u16;
+        wire::put_u16(self.bytes, self.len, high * 0x100 + low);
+        self.len = place_behind(self.bytes.len(), self.len, HEX_BYTE);
+    }
+
+    // Two digits a byte, in lower case; `-` where there are no bytes.
+    pub fn put_hex(&mut self, s: &[u8])
+        ensures { Put self.old self.new (hex s.now) }
+    {
+        if s.is_empty() {
+            return self.put(b"-");
+        }
+        for b in s {
+            self.put_hex_byte(*b);
+        }
+    }
 }

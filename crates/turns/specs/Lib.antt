@@ -1,2 +1,3 @@
 pub mod Turn
 pub mod Run
+pub mod Teller

@@ -1,14 +1,17 @@
-// What every program over a capture does between two entries: it takes the next one, writes text where the next line
-// might not fit behind it, and puts the last line. A program adds the text of an entry, and a loop over these calls.
+// What every program over a capture does: it takes one entry after the other, writes text where the next line might not
+// fit behind it, and puts the last line. A program adds the line of an entry, and what stands before the last line.
 #![tactic(auto)]
 
-ghost use Rattle.std.specs.Prelude.{◌≡◌, ◌-◌, min, length};
-ghost use Rattle.text.specs.Put.{Put};
+ghost use Rattle.std.specs.Prelude.{◌≡◌, ◌<◌, ℕ, List, min, length};
+ghost use Rattle.text.specs.Put.{Put, emptied};
 ghost use Rattle.standard_io.specs.System.{counted};
-ghost use Rattle.turns.specs.Turn.{begun, over, last_text, TakenFrom, WentOn, Finished};
+ghost use Rattle.turns.specs.Turn.{begun, last_text, TakenFrom, WentOn, Finished, Telling};
+ghost use Rattle.turns.specs.Teller.{LineTold, EndTold, TurnTold, RunTold};
 
-use capture_input::{Next, Unread};
-use standard_io::{Heard, Wrote};
+use capture::LONGEST_ENTRY;
+use capture_input::{Stop, Unread};
+use standard_io::Wrote;
+use text::Text;
 
 // A count that no input reaches.
 pub const MOST_ENTRIES: u64 = 0xffff_ffff_ffff_ffff;
@@ -19,143 +22,157 @@ pub const BLOCK: usize = 65536;
 // The longest line is shorter: two digits for each byte of an entry, and some words.
 pub const LINE_ROOM: usize = 40000;
 
-// Between two entries. Text that is not written yet takes up the first `at` bytes of its buffer.
+// What a program tells of a capture, and what it remembers for that.
+pub trait Teller {
+    // That it tells by this telling, and that these entries are behind it.
+    ghost knows: { Telling → Self → List (List ℕ) → Type 0 };
+
+    // Puts the line of entry n.
+    fn put_line(&mut self, out: &mut Text, n: u64, datagram: &[u8])
+        ensures { LineTold knows self.old self.new out.old out.new n datagram.now };
+
+    // Puts what stands before the last line.
+    fn put_end(&self, out: &mut Text)
+        ensures { EndTold knows self.now out.old out.new };
+}
+
+// Between two entries. The text that is not written yet stands beside it.
 #[derive(Clone, Copy)]
 pub struct State {
     pub unread: Unread,
-    pub at: usize,
-    pub heard: Heard,
     pub wrote: Wrote,
     pub going: bool,
 }
 
-// What comes next in the capture, and the state once it is taken.
-#[derive(Clone, Copy)]
-pub struct Found {
-    pub next: Next,
-    pub state: State,
-}
-
-// Before the first entry.
-pub fn begin() -> State
-    ensures { result ≡ begun }
+// Hands all text to the system.
+fn flush(rt: &(impl Print + Eprint), out: &mut Text, wrote: Wrote) -> Wrote
+    ensures handed { result.total ≡ counted wrote.total (min out.old.len (length out.old.bytes.now)) }
+    ensures empty { out.new ≡ emptied out.old }
 {
-    let unread = Unread { start: 0, len: 0 };
-    State {
-        unread,
-        at: 0,
-        heard: standard_io::nothing_heard(),
-        wrote: standard_io::nothing_written(),
-        going: true,
-    }
-}
-
-// Takes the next entry into `entry`, if there is one. What is left unread is in `block`.
-pub fn take(rt: &impl Input, block: &mut [u8], entry: &mut [u8], state: State) -> Found
-    ensures { TakenFrom block.old block.new entry.old entry.new state result }
-{
-    let unread = state.unread;
-    let wrote = state.wrote;
-    let step = capture_input::next_entry(rt, block, entry, unread, state.heard);
-    let next = step.next;
-    let left = step.unread;
-    let heard = step.heard;
-    Found {
-        next,
-        state: State {
-            unread: left,
-            at: state.at,
-            heard,
-            wrote,
-            going: state.going,
-        },
-    }
-}
-
-// Hands the first `at` bytes of the text to the system.
-fn flush(rt: &(impl Print + Eprint), out: &[u8], at: usize, wrote: Wrote) -> Wrote
-    ensures { result.total ≡ counted wrote.total (min at (length out.now)) }
-{
-    if out.len() < at {
-        return standard_io::write(rt, out, wrote);
-    }
-    standard_io::write(rt, &out[0..at], wrote)
-}
-
-// How much of the buffer is free behind text that ends at `at`.
-fn free(room: usize, at: usize) -> usize
-    ensures { result ≡ room - at }
-{
-    if at < room { room - at } else { 0 }
-}
-
-// After a line that ends at `at`: writes the text where the next line might not fit behind it. The program goes on
-// unless the system did not take all text.
-pub fn go_on(rt: &(impl Print + Eprint), out: &[u8], at: usize, state: State) -> State
-    ensures { WentOn out.now at state result }
-{
-    let unread = state.unread;
-    let heard = state.heard;
-    if LINE_ROOM <= free(out.len(), at) {
-        let wrote = standard_io::kept(state.wrote);
-        let going = standard_io::took_all(wrote);
-        return State {
-            unread,
-            at,
-            heard,
-            wrote,
-            going,
-        };
-    }
-    let wrote = flush(rt, out, at, state.wrote);
-    let going = standard_io::took_all(wrote);
-    State {
-        unread,
-        at: 0,
-        heard,
-        wrote,
-        going,
-    }
+    let wrote = wrote.write(rt, out.written());
+    out.clear();
+    wrote
 }
 
 // The last line, after n whole entries; none after a read that failed.
-fn put_last(rt: &impl Eprint, out: &mut [u8], at: usize, next: Next, n: u64) -> usize
-    ensures { Put out.old out.new at result (last_text next n) }
+fn put_last(rt: &impl Eprint, out: &mut Text, next: Result<usize, Stop>, n: u64)
+    ensures { Put out.old out.new (last_text next n) }
 {
     match next {
-        Next::Stop(ending) => line::put_last_line(out, at, ending, n),
-        Next::Failed => {
+        Err(Stop::Ended(ending)) => line::put_last_line(out, ending, n),
+        Err(Stop::Failed) => {
             standard_io::tell_failure(rt, "read failed");
-            text::put(out, at, b"")
+            out.put(b"");
         }
-        Next::Entry { len: _ } => text::put(out, at, b""),
+        Ok(_) => out.put(b""),
     }
 }
 
-fn stopped(heard: Heard, wrote: Wrote) -> State
-    ensures { result ≡ over heard wrote }
-{
-    State {
-        unread: Unread { start: 0, len: 0 },
-        at: 0,
-        heard,
-        wrote,
-        going: false,
+impl State {
+    // Before the first entry.
+    pub fn begin() -> State
+        ensures { result ≡ begun }
+    {
+        State {
+            unread: Unread::nothing(),
+            wrote: Wrote::nothing(),
+            going: true,
+        }
+    }
+
+    // Takes the next entry into `entry`, if there is one, and says how long it is. What is left unread is in `block`.
+    pub fn take(
+        &mut self,
+        rt: &impl Input,
+        block: &mut [u8],
+        entry: &mut [u8],
+    ) -> Result<usize, Stop>
+        ensures { TakenFrom block.old block.new entry.old entry.new self.old result self.new }
+    {
+        self.unread.next_entry(rt, block, entry)
+    }
+
+    // After a line: writes the text where the next line might not fit behind it. The program goes on unless the system
+    // did not take all text.
+    pub fn go_on(&mut self, rt: &(impl Print + Eprint), out: &mut Text)
+        ensures { WentOn out.old out.new self.old self.new }
+    {
+        if LINE_ROOM <= out.bytes.len().saturating_sub(out.len) {
+            self.wrote = self.wrote.kept();
+        } else {
+            self.wrote = flush(rt, out, self.wrote);
+        }
+        self.going = self.wrote.took_all();
+    }
+
+    // Where no entry comes next: puts the last line, after n whole entries, and writes all text.
+    // Any answer of `take` is allowed, as `Finished` says: after an entry no line is put.
+    pub fn finish(
+        &mut self,
+        rt: &(impl Print + Eprint),
+        out: &mut Text,
+        next: Result<usize, Stop>,
+        n: u64,
+    )
+        ensures { Finished out.old out.new next n self.old self.new }
+    {
+        put_last(rt, out, next, n);
+        *self = State {
+            unread: Unread {
+                start: 0,
+                len: 0,
+                heard: self.unread.heard,
+            },
+            wrote: flush(rt, out, self.wrote),
+            going: false,
+        };
     }
 }
 
-// Where no entry comes next: puts the last line, after n whole entries, and writes all text.
-pub fn finish(
-    rt: &(impl Print + Eprint),
-    out: &mut [u8],
-    at: usize,
-    next: Next,
+// What follows n entries.
+fn turn<P: Teller>(
+    rt: &(impl Input + Print + Eprint),
+    program: &mut P,
+    state: &mut State,
+    block: &mut [u8],
+    entry: &mut [u8],
+    out: &mut Text,
     n: u64,
-    state: State,
-) -> State
-    ensures { Finished out.old out.new at next n state result }
+)
+    requires { (n < 0xffff_ffff_ffff_ffff) × (length entry.old ≡ 8192) }
+    ensures { TurnTold P.knows program.old program.new n state.old state.new block.old block.new out.old out.new }
 {
-    let heard = state.heard;
-    let end = put_last(rt, out, at, next, n);
-    stopped(heard, flush(rt, out, end, state.wrote))
+    let next = state.take(rt, block, entry);
+    match next {
+        Ok(len) => {
+            program.put_line(out, n + 1, wire::part(entry, 0, len));
+            state.go_on(rt, out);
+        }
+        Err(Stop::Ended(_)) => {
+            program.put_end(out);
+            state.finish(rt, out, next, n);
+        }
+        Err(Stop::Failed) => state.finish(rt, out, next, n),
+    }
+}
+
+// A whole program: turns until one stops. The buffer holds the longest entry.
+pub fn run_program<P: Teller>(
+    rt: &(impl Input + Print + Eprint),
+    program: &mut P,
+    block: &mut [u8],
+    out: &mut Text,
+) -> State
+    ensures { RunTold P.knows program.old block.old block.new out.old out.new result }
+{
+    let mut entry = [0; LONGEST_ENTRY];
+    let mut state = State::begin();
+    out.clear();
+    for n in 0..MOST_ENTRIES {
+        if !state.going {
+            break;
+        }
+        turn(rt, program, &mut state, block, &mut entry, out, n);
+    }
+    state
 }

@@ -5,7 +5,7 @@ ghost use Rattle.std.specs.Prelude.{◌≡◌};
 ghost use Rattle.refusal.specs.Check.{checked_of};
 ghost use Rattle.universe.specs.Universe.{universe_checks, multicast_of};
 
-use refusal::{Checked, Refusal};
+use refusal::Refusal;
 use wire::constants::{
     ACN_SDT_MULTICAST_PORT, E131_DISCOVERY_UNIVERSE, E131_MAX_MULTICAST_UNIVERSE,
     E131_MIN_MULTICAST_UNIVERSE, E131_MULTICAST_IPV4_HIGHEST_BYTE, E131_MULTICAST_IPV4_SECOND_BYTE,
@@ -13,7 +13,7 @@ use wire::constants::{
 
 // Four bytes of an IPv4 address, highest first, and a port.
 #[repr(C)]
-#[derive(Clone, Copy)]
+#[derive(Clone, Copy, Default)]
 pub struct Ipv4Address {
     pub highest: u8,
     pub second: u8,
@@ -22,43 +22,32 @@ pub struct Ipv4Address {
     pub port: u16,
 }
 
-#[derive(Clone, Copy)]
-pub enum Multicast {
-    Address(Ipv4Address),
-    Refused(Refusal),
-}
-
-pub fn is_universe_in_range(universe: u16) -> Checked
+pub fn is_universe_in_range(universe: u16) -> Result<(), Refusal>
     ensures { result ≡ checked_of (universe_checks universe) }
 {
     if universe == E131_DISCOVERY_UNIVERSE {
-        return Checked::Passed;
+        return Ok(());
     }
-    let refusal = Refusal::new(
-        refusal::NO_MULTICAST_ADDRESS,
-        refusal::NOWHERE,
-        universe as u32,
-    );
-    if universe < E131_MIN_MULTICAST_UNIVERSE {
-        return Checked::Refused(refusal);
+    if universe < E131_MIN_MULTICAST_UNIVERSE || E131_MAX_MULTICAST_UNIVERSE < universe {
+        return refusal::refuse(
+            refusal::NO_MULTICAST_ADDRESS,
+            refusal::NOWHERE,
+            universe as u32,
+        );
     }
-    if E131_MAX_MULTICAST_UNIVERSE < universe {
-        return Checked::Refused(refusal);
-    }
-    Checked::Passed
+    Ok(())
 }
 
-pub fn universe_to_ipv4_multicast_addr(universe: u16) -> Multicast
+pub fn universe_to_ipv4_multicast_addr(universe: u16) -> Result<Ipv4Address, Refusal>
     ensures { result ≡ multicast_of universe }
 {
-    match is_universe_in_range(universe) {
-        Checked::Refused(r) => Multicast::Refused(r),
-        Checked::Passed => Multicast::Address(Ipv4Address {
-            highest: E131_MULTICAST_IPV4_HIGHEST_BYTE,
-            second: E131_MULTICAST_IPV4_SECOND_BYTE,
-            third: (universe / 0x100) as u8,
-            lowest: (universe % 0x100) as u8,
-            port: ACN_SDT_MULTICAST_PORT,
-        }),
-    }
+    is_universe_in_range(universe)?;
+    let [third, lowest] = universe.to_be_bytes();
+    Ok(Ipv4Address {
+        highest: E131_MULTICAST_IPV4_HIGHEST_BYTE,
+        second: E131_MULTICAST_IPV4_SECOND_BYTE,
+        third,
+        lowest,
+        port: ACN_SDT_MULTICAST_PORT,
+    })
 }

@@ -1,8 +1,5 @@
 -- Lists of the lengths that decide, by running the definitions. Assumes nothing.
-use Prim.Native.Nat.{ℕ}
-use mathlib.Core.Path.{◌≡◌, refl}
-use mathlib.Core.List.{List, [], ◌∷◌, map}
-use lib.ListN.{length, replicate}
+use Rattle.std.proofs.Common.{◌≡◌, ℕ, List, [], ◌∷◌, map, length, replicate, refl}
 use Rattle.universe_pages.specs.Pages.{last_page_of, firsts, pages_of}
 
 -- how many universes each page has: of none, 1, 512, 513 and 1,024

@@ -1,15 +1,9 @@
 -- Numbers that rise, as one test: their parts, their joins, how many there can be; and the checks of neighbours, by which an order is defined. Assumes nothing.
-use Prim.Native.Nat.{ℕ, zero, suc, ◌+◌, ◌-◌, ◌≤◌, ◌<◌}
-use mathlib.Core.Path.{◌≡◌, refl}
-use mathlib.Core.Bool.{Bool, true, false}
-use mathlib.Core.List.{List, [], ◌∷◌, ◌++◌}
-use native.Mathlib.Omega.{arith}
-use lib.ListN.{length, take, drop, get_or}
+use Rattle.std.proofs.Common.{◌≡◌, ℕ, zero, suc, ◌+◌, ◌-◌, ◌<◌, ◌≤◌, Bool, true, false, List, [], ◌∷◌, ◌++◌, length, get_or, take, drop, Ok, Err, sym, refl, ◌∙◌, arith}
 use Rattle.refusal.specs.Check.{Test, ◌≤?◌, ◌and◌, outcome, pick, checked_of}
 use Rattle.refusal.specs.declared.Refusal.{Refusal}
-use Rattle.refusal.specs.declared.Checked.TheVariants as checked
 use Rattle.refusal.proofs.Tests.{Holds, Fails, decide}
-use Rattle.refusal.proofs.Laws.{All, all_hold, found}
+use Rattle.refusal.proofs.Laws.{All, all_hold, not_refused, read_as}
 use Rattle.discovery.specs.Universes.{pairs_from, pairs, ascends, rises, order_checks}
 
 -- the first number is at least `low`, and each is above the one before it
@@ -80,10 +74,9 @@ ascends→rising [] h = omega arith
 ascends→rising (u ∷ us) h = (omega arith, ascends→from u us h)
 
 -- and of the answer to those at writing
-pub passed→rising : (us : List ℕ) → checked_of (order_checks us) ≡ checked.Passed → Holds (rising us)
+pub passed→rising : (us : List ℕ) → checked_of (order_checks us) ≡ Ok tt → Holds (rising us)
 unfolding checked_of
-passed→rising us e =
-    order→rising us (found checked.Refused (order_checks us) checked.Passed checked.Passed (λ r q. let z : ◌≡◌ {A = ℕ} 0 1 = cc in omega arith) e).0
+passed→rising us e = order→rising us (read_as (order_checks us) tt tt e).0
 
 -- Numbers behind others.
 pub rising_++ : (low : ℕ) (us vs : List ℕ) →
@@ -123,11 +116,9 @@ pub first_below : (low : ℕ) (us : List ℕ) → 0 < length us → get_or us 0 
 first_below low [] h b = absurd (omega arith)
 first_below low (u ∷ us) h b = λ k. absurd (omega arith)
 
-pub refused→falls : (low : ℕ) (us : List ℕ) (r : Refusal) → checked_of (order_checks us) ≡ checked.Refused r → Fails (rising_from low us)
+pub refused→falls : (low : ℕ) (us : List ℕ) (r : Refusal) → checked_of (order_checks us) ≡ Err r → Fails (rising_from low us)
 unfolding checked_of
 refused→falls low us r e =
     decide (rising_from low us)
-    (λ h.
-    let passed = all_hold checked.Refused (order_checks us) checked.Passed (rising→order us (from_lower low 0 us (omega arith) h)) in
-    let z : ◌≡◌ {A = ℕ} 0 1 = cc in absurd (omega arith))
+    (λ h. absurd (not_refused tt r (sym e ∙ all_hold Err (order_checks us) (Ok tt) (rising→order us (from_lower low 0 us (omega arith) h)))))
     (λ f. f)

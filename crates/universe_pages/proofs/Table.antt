@@ -1,9 +1,5 @@
 -- A page's write refuses only as the table says. Assumes nothing.
-use Prim.Native.Nat.{ℕ}
-use mathlib.Core.Path.{◌≡◌, refl}
-use mathlib.Core.List.{List}
-use native.Mathlib.Omega.{arith}
-use lib.ListN.{get_or}
+use Rattle.std.proofs.Common.{◌≡◌, ℕ, List, get_or, Err, refl, arith}
 use Rattle.refusal.specs.declared.Refusal.{Refusal}
 use Rattle.refusal.specs.Check.{refusal, nowhere, ◌≠?◌, ◌and◌}
 use Rattle.refusal.proofs.Tests.{Holds, clash, fact, bounded}
@@ -14,7 +10,6 @@ use Rattle.discovery.specs.Universes.{rises, order_checks}
 use Rattle.discovery.proofs.Laws.{every_pairs}
 use Rattle.pack.specs.Writing.{packed_of}
 use Rattle.pack.specs.Table.{told, discovery_allowed}
-use Rattle.pack.specs.declared.Packed.TheVariants.{Refused}
 use Rattle.pack.proofs.Table.{refused_with}
 use Rattle.universe_pages.specs.Writing.{numbered_checks, page_write_checks, page_length}
 use Rattle.universe_pages.specs.Table.{page_allowed}
@@ -27,7 +22,7 @@ as_packet : (r : Refusal) → Holds (r.number ≠? 24 and discovery_allowed r) �
 as_packet r h = λ f. absurd (clash (r.number ≠? 24 and discovery_allowed r) h f)
 
 pub page_refusals : (room : ℕ) (name us : List ℕ) (k : ℕ) (r : Refusal) →
-    packed_of (page_write_checks room name us k) (page_length us k) ≡ Refused r → Holds (page_allowed r)
+    packed_of (page_write_checks room name us k) (page_length us k) ≡ Err r → Holds (page_allowed r)
 page_refusals room name us k r e =
     let names : Every Allowed (written_name_checks name) =
     every_written Allowed name (fact (page_allowed (refusal 21 nowhere 0))) (fact (page_allowed (refusal 22 nowhere 0)))

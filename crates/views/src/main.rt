@@ -7,6 +7,7 @@ use extended::synchronization::SynchronizationFields;
 use framing::DataFields;
 use parts::plain::{Fields, Kind};
 use std::io;
+use text::Text;
 
 const LINE_ROOM: usize = 4096;
 
@@ -17,42 +18,41 @@ const BEHIND_THE_NAME: usize = 60;
 
 const PRIORITY: usize = 108;
 
-fn put_kind(out: &mut [u8], at: usize, kind: Kind) -> usize {
+fn put_kind(out: &mut Text, kind: Kind) {
     match kind {
-        Kind::Data => text::put(out, at, b": data"),
-        Kind::Synchronization => text::put(out, at, b": synchronization"),
-        Kind::Discovery => text::put(out, at, b": discovery"),
-        Kind::Refused => text::put(out, at, b": refused"),
+        Kind::Data => out.put(b": data"),
+        Kind::Synchronization => out.put(b": synchronization"),
+        Kind::Discovery => out.put(b": discovery"),
+        Kind::Refused => out.put(b": refused"),
     }
 }
 
-fn put_fields(out: &mut [u8], at: usize, fields: Fields) -> usize {
+fn put_fields(out: &mut Text, fields: Fields) {
     match fields {
-        Fields::Data(x) => field_text::put_data_fields(out, at, x),
-        Fields::Synchronization(x) => field_text::put_synchronization_fields(out, at, x),
-        Fields::Discovery(x) => field_text::put_page(out, at, x),
-        Fields::Refused(r) => field_text::put_refusal(out, at, r),
+        Fields::Data(x) => field_text::put_data_fields(out, x),
+        Fields::Synchronization(x) => field_text::put_synchronization_fields(out, x),
+        Fields::Discovery(x) => field_text::put_page(out, x),
+        Fields::Refused(r) => field_text::put_refusal(out, r),
     }
 }
 
 fn show(rt: &impl Print, words: &[u8], datagram: &[u8]) -> io::Result<()> {
-    let mut out = [0; LINE_ROOM];
     let reading = packet::parse(datagram);
     let plain = parts::plain::plain_of(reading);
-    let cid = plain.cid;
-    let fields = plain.fields;
-    let at = text::put(&mut out, 0, words);
-    let at = put_kind(&mut out, at, parts::plain::kind_of(reading));
-    let at = text::put(&mut out, at, b" from ");
-    let at = text::put_hex(&mut out, at, &cid);
-    let at = text::put(&mut out, at, b"\n");
-    let at = put_fields(&mut out, at, fields);
-    let at = text::put(&mut out, at, b"\n name ");
-    let at = text::put_hex(&mut out, at, view::viewed_name(datagram));
-    let at = text::put(&mut out, at, b" values ");
-    let at = text::put_hex(&mut out, at, view::viewed_values(datagram));
-    let at = text::put(&mut out, at, b"\n");
-    rt.write_all(wire::part(&out, 0, at))
+    let mut room = [0; LINE_ROOM];
+    let mut out = Text::new(&mut room);
+    out.put(words);
+    put_kind(&mut out, parts::plain::kind_of(reading));
+    out.put(b" from ");
+    out.put_hex(&plain.cid);
+    out.put(b"\n");
+    put_fields(&mut out, plain.fields);
+    out.put(b"\n name ");
+    out.put_hex(view::viewed_name(datagram));
+    out.put(b" values ");
+    out.put_hex(view::viewed_values(datagram));
+    out.put(b"\n");
+    rt.write_all(out.written())
 }
 
 fn data_cases(rt: &impl Print) -> io::Result<()> {
@@ -66,7 +66,7 @@ fn data_cases(rt: &impl Print) -> io::Result<()> {
         force_synchronization: false,
         universe: 63999,
     };
-    pack::pack_data(&mut buf, CID, fields, b"F\xc3\xb6H", b"\x00\x01\xff");
+    let _ = pack::pack_data(&mut buf, CID, fields, b"F\xc3\xb6H", b"\x00\x01\xff");
     show(rt, b"a name and three values", wire::part(&buf, 0, 128))?;
     show(rt, b"the same, and bytes behind the packet", &buf)?;
     show(rt, b"the same, one byte short", wire::part(&buf, 0, 127))?;
@@ -91,7 +91,7 @@ fn bare_case(rt: &impl Print) -> io::Result<()> {
         force_synchronization: true,
         universe: 1,
     };
-    pack::pack_data(&mut buf, CID, fields, b"", b"\x00");
+    let _ = pack::pack_data(&mut buf, CID, fields, b"", b"\x00");
     show(rt, b"no name and a start code alone", &buf)
 }
 
@@ -101,7 +101,7 @@ fn synchronization_case(rt: &impl Print) -> io::Result<()> {
         sequence_number: 7,
         synchronization_address: 8000,
     };
-    pack::pack_synchronization(&mut buf, CID, fields);
+    let _ = pack::pack_synchronization(&mut buf, CID, fields);
     show(rt, b"a sync packet", &buf)
 }
 
@@ -111,7 +111,7 @@ fn discovery_case(rt: &impl Print) -> io::Result<()> {
         page: 1,
         last_page: 2,
     };
-    pack::pack_discovery(&mut buf, CID, fields, b"FOH", &[5, 9]);
+    let _ = pack::pack_discovery(&mut buf, CID, fields, b"FOH", &[5, 9]);
     show(rt, b"a name and two universes", &buf)
 }
 

@@ -1,15 +1,10 @@
 -- From the writer to the collector: the pages of a list, written in any order, some of them again, are collected to that list. Assumes nothing.
-use Prim.Native.Nat.{ℕ, ◌+◌, ◌*◌, ◌≤◌}
-use mathlib.Core.Path.{◌≡◌, subst}
-use mathlib.Core.List.{List, [], ◌∷◌, ◌++◌, map}
-use mathlib.Core.Logic.{inl, inr}
-use lib.ListN.{length, drop}
+use Rattle.std.proofs.Common.{◌≡◌, ℕ, ◌+◌, ◌*◌, ◌≤◌, List, [], ◌∷◌, ◌++◌, map, length, drop, subst, inl, inr}
 use Rattle.wire.specs.Bytes.{Bytes, Words}
 use Rattle.demands.specs.Limits.{Rising, ReadableName}
 use Rattle.universe_pages.specs.Pages.{last_page_of, page_of}
 use Rattle.universe_pages.specs.Writing.{page_length}
-use Rattle.page_collector.specs.Collect.{fresh}
-use Rattle.page_collector.specs.declared.Answer.TheVariants as answer
+use Rattle.page_collector.specs.Collect.{list_of, fresh}
 use Rattle.whole_lists.specs.Captures.{held, fed, held_after_all, Each, Among, OfPages, IsPage, written}
 use Rattle.whole_lists.proofs.Whole.{whole_list, fresh_ready}
 use Rattle.whole_lists.proofs.Return.{page_returned}
@@ -40,7 +35,7 @@ module _ (cid name us : List ℕ) (sixteen : length cid ≡ 16) (named : Readabl
   pub collected_again : (memory list : List ℕ) (before : List (List ℕ)) (ks : List ℕ) (k : ℕ) → 512 * (last_page_of us + 1) ≤ length memory →
       512 * (last_page_of us + 1) ≤ length list → Each Bytes before → Each Numbered (k ∷ ks) → ((j : ℕ) → Numbered j → Among (λ i. j ≡ i) (k ∷ ks)) →
       let then = held_after_all (held_after_all (held (fresh cid) memory list) before) (map sent ks) in
-      ((fed then (sent k)).collected.answer ≡ answer.List (length us)) × ((fed then (sent k)).list ≡ us ++ drop (length us) then.list)
+      ((fed then (sent k)).collected.answer ≡ list_of (length us)) × ((fed then (sent k)).list ≡ us ++ drop (length us) then.list)
   collected_again memory list before ks k m l bytes within all =
       whole_list cid us ascending words (held (fresh cid) memory list) before (map sent ks) (sent k) k (fresh_ready cid (last_page_of us) memory list m l) bytes
       (each ks within.1) within.0 (is_page k within.0) (λ j b. among j b (k ∷ ks) (all j b))

@@ -1,7 +1,5 @@
 -- The pages of specs/Examples, fed in turn, by running the definitions. Assumes nothing.
-use mathlib.Core.Path.{◌≡◌, refl}
-use mathlib.Core.List.{[], ◌∷◌, map}
-use lib.ListN.{take}
+use Rattle.std.proofs.Common.{◌≡◌, [], ◌∷◌, map, take, refl}
 use Rattle.wire.specs.Fields.{part_of, u16_at, u32_at}
 use Rattle.refusal.specs.Check.{reading, choose, checked_of}
 use Rattle.cid.specs.Same.{same_cid}

@@ -1,17 +1,15 @@
 -- What the collector does to its counts and its memory is what `feed` does to the pages. Assumes nothing.
-use Prim.Native.Nat.{ℕ, zero, suc, ◌+◌, ◌-◌, ◌*◌, ◌≤◌, ◌<◌}
-use mathlib.Core.Path.{◌≡◌, refl, sym, ap, ◌∙◌}
-use mathlib.Core.List.{List, [], ◌∷◌}
-use native.Mathlib.Nat.{add-suc}
-use native.Mathlib.Omega.{arith}
-use lib.ListN.{length, take, drop, get_or, set, replicate, length-replicate, length-drop}
-use lib.Seq.{sets, take_at, take-set-le, take-set-lt, drop-set-add, drop-set-lt, length-take-le, get_or-set_same, get_or-set_other}
-use Rattle.wire.proofs.Laws.{sets_front, take_zeros}
+use Rattle.std.proofs.Common.{Option, Some, None, ◌≡◌, ℕ, zero, suc, ◌+◌, ◌*◌, ◌<◌, ◌≤◌, List, [], ◌∷◌, length, get_or, take, drop, set, replicate, sym, refl, ap, ◌∙◌, add-suc, arith, length-drop, length-take-le, get_or-set_other, get_or-set_same, take_at, drop-set-lt}
+use lib.ListN.{length-replicate}
+use lib.Seq.{sets, take-set-le, take-set-lt, drop-set-add}
+use Rattle.std.proofs.lemmas.List.{take-replicate}
+use Rattle.wire.proofs.Laws.{sets_front}
 use Rattle.refusal.specs.Check.{◌=?◌, choose}
 use Rattle.refusal.proofs.Tests.{decide, chosen, passed_over, choice}
 use Rattle.discovery.specs.declared.DiscoveryFields.{DiscoveryFields}
 use Rattle.page_collector.specs.Pages.{Page, missing, kept}
-use Rattle.page_collector.specs.Memory.{there, page_in, pages_in}
+use Rattle.page_collector.specs.Memory.{there, size, page_in, pages_in}
+use Rattle.page_collector.proofs.Memory.{size_short}
 use Rattle.page_collector.specs.Collect.{no_counts, counts_for, keeping, memory_with, pages_by}
 use Rattle.page_collector.specs.declared.Collector.{Collector}
 use Rattle.whole_lists.specs.Feed.{feed}
@@ -33,21 +31,20 @@ sets_drop n (v ∷ vs) l i =
     ap (λ (j : ℕ). drop n (sets (set l (n + i) v) j vs)) (sym (add-suc n i)) ∙ sets_drop n vs (set l (n + i) v) (suc i) ∙ rw (drop-set-add n l i v)
 
 -- A page in memory: only its first 512 numbers count; and one that was put there is kept.
-page_same : (c : ℕ) (m l : List ℕ) → ((n : ℕ) → n ≤ 512 → take n m ≡ take n l) → page_in c m ≡ page_in c l
+page_same : (c : Option ℕ) (m l : List ℕ) → ((n : ℕ) → n ≤ 512 → take n m ≡ take n l) → page_in c m ≡ page_in c l
 page_same c m l same =
     decide (there c)
-    (λ t. sym (chosen (there c) (kept (take (c - 1) m)) missing t refl) ∙ ap kept (same (c - 1) (omega (arith, t))) ∙ chosen (there c) (kept (take (c - 1) l)) missing t refl)
-    (λ f. sym (passed_over (there c) (kept (take (c - 1) m)) missing f refl) ∙ passed_over (there c) (kept (take (c - 1) l)) missing f refl)
+    (λ t. sym (chosen (there c) (kept (take (size c) m)) missing t refl) ∙ ap kept (same (size c) (size_short c t)) ∙ chosen (there c) (kept (take (size c) l)) missing t refl)
+    (λ f. sym (passed_over (there c) (kept (take (size c) m)) missing f refl) ∙ passed_over (there c) (kept (take (size c) l)) missing f refl)
 
-page_put : (us m : List ℕ) → length us ≤ 512 → 512 ≤ length m → page_in (length us + 1) (sets m 0 us) ≡ kept us
+page_put : (us m : List ℕ) → length us ≤ 512 → 512 ≤ length m → page_in (Some (length us)) (sets m 0 us) ≡ kept us
 page_put us m short room =
-    let count : length us + 1 - 1 ≡ length us = omega arith in
-    let is : take (length us + 1 - 1) (sets m 0 us) ≡ us = rw (count, sets_front us m (length us) refl (omega arith)) (take_at us (drop (length us) m) (length us) refl) in
-    sym (chosen (there (length us + 1)) (kept (take (length us + 1 - 1) (sets m 0 us))) missing (omega arith, omega arith) refl) ∙ ap kept is
+    let is : take (length us) (sets m 0 us) ≡ us = rw (sets_front us m (length us) refl (omega arith)) (take_at us (drop (length us) m) (length us) refl) in
+    sym (chosen (there (Some (length us))) (kept (take (length us) (sets m 0 us))) missing short refl) ∙ ap kept is
 
 -- Page k is put at its place, and its count is set: page k is kept, and the others stay.
-pages_put : (cs m us : List ℕ) (k : ℕ) → k < length cs → length us ≤ 512 → 512 * (k + 1) ≤ length m →
-    pages_in (set cs k (length us + 1)) (sets m (512 * k) us) ≡ set (pages_in cs m) k (kept us)
+pages_put : (cs : List (Option ℕ)) (m us : List ℕ) (k : ℕ) → k < length cs → length us ≤ 512 → 512 * (k + 1) ≤ length m →
+    pages_in (set cs k (Some (length us))) (sets m (512 * k) us) ≡ set (pages_in cs m) k (kept us)
 unfolding pages_in
 pages_put [] m us k h short room = absurd (omega arith)
 pages_put (c ∷ cs) m us zero h short room = rw (page_put us m short (omega arith), drop_sets 512 us m 0 (omega arith))
@@ -57,20 +54,20 @@ pages_put (c ∷ cs) m us (suc k) h short room =
     let behind : drop 512 (sets m (512 * suc k) us) ≡ sets (drop 512 m) (512 * k) us = rw at (sets_drop 512 us m (512 * k)) in
     rw (before, behind, pages_put cs (drop 512 m) us k (omega arith) short (omega (arith, length-drop 512 m)))
 
-pages_length : (cs m : List ℕ) → length (pages_in cs m) ≡ length cs
+pages_length : (cs : List (Option ℕ)) (m : List ℕ) → length (pages_in cs m) ≡ length cs
 unfolding pages_in
 pages_length [] m = refl
 pages_length (c ∷ cs) m = ap suc (pages_length cs (drop 512 m))
 
 -- Without counts all pages are missing.
-pages_none : (n : ℕ) (m : List ℕ) → pages_in (replicate n 0) m ≡ replicate n missing
+pages_none : (n : ℕ) (m : List ℕ) → pages_in (replicate n None) m ≡ replicate n missing
 unfolding pages_in choose
 pages_none zero m = refl
 pages_none (suc n) m = rw (pages_none n (drop 512 m))
 
-none_first : (n : ℕ) → n ≤ 256 → take n no_counts ≡ replicate n 0
+none_first : (n : ℕ) → n ≤ 256 → take n no_counts ≡ replicate n None
 unfolding no_counts
-none_first n h = take_zeros n 256 h
+none_first n h = take-replicate n 256 None h
 
 none_length : length no_counts ≡ 256
 unfolding no_counts
@@ -83,7 +80,7 @@ module _ (c : Collector) (sized : Sized c) where
 
   pub counts_length : (last : ℕ) → length (counts_for c last) ≡ 256
   unfolding counts_for
-  counts_length last = choice (λ (cs : List ℕ). length cs ≡ 256) (c.last_page =? last) c.counts no_counts (λ h. sized.counted) (λ f. none_length)
+  counts_length last = choice (λ (cs : List (Option ℕ)). length cs ≡ 256) (c.last_page =? last) c.counts no_counts (λ h. sized.counted) (λ f. none_length)
 
   -- as they are, or all afresh
   counts_pages : (last : ℕ) (m : List ℕ) → last ≤ 255 →
@@ -94,12 +91,12 @@ module _ (c : Collector) (sized : Sized c) where
       let t = length (pages_by c m) =? last + 1 in
       decide (c.last_page =? last)
       (λ e.
-      ap (λ (cs : List ℕ). pages_in (take (last + 1) cs) m) (sym (chosen (c.last_page =? last) c.counts no_counts e refl))
+      ap (λ (cs : List (Option ℕ)). pages_in (take (last + 1) cs) m) (sym (chosen (c.last_page =? last) c.counts no_counts e refl))
       ∙ ap (λ (n : ℕ). pages_in (take (n + 1) c.counts) m) (sym e)
       ∙ chosen t (pages_by c m) (replicate (last + 1) missing) (omega (arith, many, e)) refl)
       (λ n.
-      ap (λ (cs : List ℕ). pages_in (take (last + 1) cs) m) (sym (passed_over (c.last_page =? last) c.counts no_counts n refl))
-      ∙ ap (λ (cs : List ℕ). pages_in cs m) (none_first (last + 1) (omega arith))
+      ap (λ (cs : List (Option ℕ)). pages_in (take (last + 1) cs) m) (sym (passed_over (c.last_page =? last) c.counts no_counts n refl))
+      ∙ ap (λ (cs : List (Option ℕ)). pages_in cs m) (none_first (last + 1) (omega arith))
       ∙ pages_none (last + 1) m
       ∙ passed_over t (pages_by c m) (replicate (last + 1) missing) (λ e. n (omega (arith, many, e))) refl)
 
@@ -111,7 +108,7 @@ module _ (c : Collector) (sized : Sized c) where
       let last = f.last_page in
       let cs = counts_for c last in
       let many : length (take (last + 1) cs) ≡ last + 1 = length-take-le (last + 1) cs (omega (arith, b, counts_length last)) in
-      ap (λ (l : List ℕ). pages_in l (memory_with m f us)) (take-set-lt (last + 1) cs f.page (length us + 1) (omega arith))
+      ap (λ (l : List (Option ℕ)). pages_in l (memory_with m f us)) (take-set-lt (last + 1) cs f.page (Some (length us)) (omega arith))
       ∙ pages_put (take (last + 1) cs) m us f.page (omega (arith, paged, many)) short (omega (arith, paged, room))
       ∙ ap (λ (ps : List Page). set ps f.page (kept us)) (counts_pages last m b)
 

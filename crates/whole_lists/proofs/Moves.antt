@@ -1,12 +1,6 @@
 -- What a datagram moves: a page that is taken in is fed to the pages that are held, and the list is their join; 31, 42, 43 and reading's own refusals
 -- move nothing; 44 moves the page alone. For every collector, every memory and every list. Assumes nothing.
-use Prim.Native.Nat.{ℕ, zero, suc, ◌+◌, ◌*◌, ◌≤◌}
-use mathlib.Core.Path.{◌≡◌, refl, sym, ap, subst, ◌∙◌}
-use mathlib.Core.List.{List, [], ◌++◌, append-nil}
-use mathlib.Core.Logic.{◌⊎◌, inl, inr, ⊎_elim}
-use native.Mathlib.Numerals.{add-one}
-use native.Mathlib.Omega.{arith}
-use lib.ListN.{length, set, replicate, length-set}
+use Rattle.std.proofs.Common.{Some, ◌≡◌, ℕ, zero, suc, ◌+◌, ◌*◌, ◌≤◌, ◌⊎◌, List, [], ◌++◌, length, set, replicate, sym, refl, ap, ◌∙◌, subst, inl, inr, ⊎_elim, append-nil, add-one, arith, length-set}
 use lib.Seq.{length-sets}
 use Rattle.wire.specs.Bytes.{Bytes}
 use Rattle.refusal.specs.declared.Refusal.{Refusal}
@@ -28,11 +22,9 @@ use Rattle.demands.proofs.Meaning.{discovery_meant}
 use Rattle.demands.proofs.Spans.{spans}
 use Rattle.universe_pages.proofs.Rising.{rising, ascends→rising}
 use Rattle.page_collector.specs.Pages.{Page, missing, kept, join_all}
-use Rattle.page_collector.specs.Collect.{After, after, collected_of, collector_of, no_counts, counts_for, pages_by, take_in_checks, keeping, memory_with, answer_to, list_with, joining, refusing, take_in, collect_by, collect_of}
+use Rattle.page_collector.specs.Collect.{Answer, list_of, refused, After, after, collected_of, collector_of, no_counts, counts_for, pages_by, take_in_checks, keeping, memory_with, answer_to, list_with, joining, refusing, take_in, collect_by, collect_of}
 use Rattle.page_collector.specs.Table.{collector_allowed}
 use Rattle.page_collector.specs.declared.Collector.{Collector}
-use Rattle.page_collector.specs.declared.Answer.{Answer}
-use Rattle.page_collector.specs.declared.Answer.TheVariants as answer
 use Rattle.page_collector.proofs.Answered.{risen, risen_list, fallen, fallen_list}
 use Rattle.page_collector.proofs.Read.{page_within, last_small}
 use Rattle.whole_lists.specs.Feed.{feed}
@@ -46,15 +38,15 @@ is_allowed : (q r : Refusal) → Holds (collector_allowed q) → q ≡ r → Hol
 is_allowed q r h e = subst (λ (x : Refusal). Holds (collector_allowed x)) e h
 
 -- A refusal of a join is 44, and the list stays as found.
-join_refused : (l : List ℕ) (p : Page) (r : Refusal) → answer_to p ≡ answer.Refused r → (r ≡ refusal 44 nowhere 0) × (list_with l p ≡ l)
+join_refused : (l : List ℕ) (p : Page) (r : Refusal) → answer_to p ≡ refused r → (r ≡ refusal 44 nowhere 0) × (list_with l p ≡ l)
 join_refused l missing r e = let z : ◌≡◌ {A = ℕ} 0 1 = cc in absurd (omega arith)
 join_refused l (kept us) r e =
     decide (rising us)
     (λ h.
-    let f : answer.List (length us) ≡ answer.Refused r = sym (risen us h) ∙ e in
+    let f : list_of (length us) ≡ refused r = sym (risen us h) ∙ e in
     let z : ◌≡◌ {A = ℕ} 0 1 = cc in absurd (omega arith))
     (λ n.
-    let f : answer.Refused (refusal 44 nowhere 0) ≡ answer.Refused r = sym (fallen us n) ∙ e in
+    let f : refused (refusal 44 nowhere 0) ≡ refused r = sym (fallen us n) ∙ e in
     let is : refusal 44 nowhere 0 ≡ r = cc in
     (sym is, fallen_list us l n))
 
@@ -83,28 +75,28 @@ module _ (c : Collector) (cid : List ℕ) (f : DiscoveryFields) (us memory list 
   not_44 (suc (suc k)) s e = s.1.1
 
   -- Any other refusal than 44 comes before the page is taken in.
-  page_unmoved : (r : Refusal) → answer_in (take_in c cid f us memory list) ≡ answer.Refused r → (r.number ≡ 44 → ⊥) →
+  page_unmoved : (r : Refusal) → answer_in (take_in c cid f us memory list) ≡ refused r → (r.number ≡ 44 → ⊥) →
       take_in c cid f us memory list ≡ refusing c memory list r
   page_unmoved r e n = ⊎_elim
       (λ (h : All checks).
-      let g : answer_in joins ≡ answer.Refused r = sym (ap answer_in (taken_in h)) ∙ e in
+      let g : answer_in joins ≡ refused r = sym (ap answer_in (taken_in h)) ∙ e in
       let j = join_refused list (join_all (pages_by (keeping c f us) (memory_with memory f us))) r g in
       absurd (n (ap (λ (q : Refusal). q.number) j.0)))
       (λ (s : (k : ℕ) × Stops k checks).
       let is = stopped s.0 s.1 in
-      let g : answer.Refused (refusal_at s.0 checks) ≡ answer.Refused r = sym (ap answer_in is) ∙ e in
+      let g : refused (refusal_at s.0 checks) ≡ refused r = sym (ap answer_in is) ∙ e in
       let q : refusal_at s.0 checks ≡ r = cc in
       is ∙ ap (refusing c memory list) q)
       (decides checks)
 
-  page_refused : (r : Refusal) → answer_in (take_in c cid f us memory list) ≡ answer.Refused r → Holds (collector_allowed r)
+  page_refused : (r : Refusal) → answer_in (take_in c cid f us memory list) ≡ refused r → Holds (collector_allowed r)
   page_refused r e = ⊎_elim
       (λ (h : All checks).
-      let g : answer_in joins ≡ answer.Refused r = sym (ap answer_in (taken_in h)) ∙ e in
+      let g : answer_in joins ≡ refused r = sym (ap answer_in (taken_in h)) ∙ e in
       is_allowed (refusal 44 nowhere 0) r (fact (collector_allowed (refusal 44 nowhere 0)))
       (sym (join_refused list (join_all (pages_by (keeping c f us) (memory_with memory f us))) r g).0))
       (λ (s : (k : ℕ) × Stops k checks).
-      let g : answer.Refused (refusal_at s.0 checks) ≡ answer.Refused r = sym (ap answer_in (stopped s.0 s.1)) ∙ e in
+      let g : refused (refusal_at s.0 checks) ≡ refused r = sym (ap answer_in (stopped s.0 s.1)) ∙ e in
       let q : refusal_at s.0 checks ≡ r = cc in
       by s.0 s.1 q)
       (decides checks)
@@ -140,14 +132,14 @@ others_refused d cid none c memory list own = by (packet_of d) none
     by (packet.Refused r) none = (r, refl)
 
 -- 31, 42, 43 and a refusal of reading's own move nothing: collector, memory and list are as found.
-pub refused_moves_nothing : (h : Held) (d : List ℕ) (r : Refusal) → answer_in (fed h d) ≡ answer.Refused r → (r.number ≡ 44 → ⊥) →
+pub refused_moves_nothing : (h : Held) (d : List ℕ) (r : Refusal) → answer_in (fed h d) ≡ refused r → (r.number ≡ 44 → ⊥) →
     fed h d ≡ refusing h.collector h.memory h.list r
 unfolding collect_of reading_of
 refused_moves_nothing h d r e n = by (packet_of d) e
   where
     by : (x : Packet) →
         let moved = collect_by h.collector d (with_cid d x).cid h.memory h.list (with_cid d x).packet in
-        answer_in moved ≡ answer.Refused r → moved ≡ refusing h.collector h.memory h.list r
+        answer_in moved ≡ refused r → moved ≡ refusing h.collector h.memory h.list r
     by (packet.Data x) e = let q : refusal 31 nowhere 0 ≡ r = cc in rw q
     by (packet.Synchronization x) e = let q : refusal 31 nowhere 0 ≡ r = cc in rw q
     by (packet.Discovery x) e =
@@ -155,11 +147,11 @@ refused_moves_nothing h d r e n = by (packet_of d) e
     by (packet.Refused q) e = let s : q ≡ r = cc in rw s
 
 -- No other refusal is told than reading's own and the collector's.
-pub only_these : (h : Held) (d : List ℕ) (r : Refusal) → answer_in (fed h d) ≡ answer.Refused r → (packet_of d ≡ packet.Refused r) ⊎ Holds (collector_allowed r)
+pub only_these : (h : Held) (d : List ℕ) (r : Refusal) → answer_in (fed h d) ≡ refused r → (packet_of d ≡ packet.Refused r) ⊎ Holds (collector_allowed r)
 unfolding collect_of reading_of
 only_these h d r e = by (packet_of d) e
   where
-    by : (x : Packet) → answer_in (collect_by h.collector d (with_cid d x).cid h.memory h.list (with_cid d x).packet) ≡ answer.Refused r →
+    by : (x : Packet) → answer_in (collect_by h.collector d (with_cid d x).cid h.memory h.list (with_cid d x).packet) ≡ refused r →
         (x ≡ packet.Refused r) ⊎ Holds (collector_allowed r)
     by (packet.Data x) e =
         let q : refusal 31 nowhere 0 ≡ r = cc in
@@ -178,12 +170,12 @@ no_page d cid none f name us e =
 
 -- Pages that start afresh with one of them: the others are missing, or it is the only one; so the answer is no refusal.
 afresh_unrefused : (last k : ℕ) (us : List ℕ) (r : Refusal) → k ≤ last → Holds (rising us) →
-    answer_to (join_all (set (replicate (suc last) missing) k (kept us))) ≡ answer.Refused r → ⊥
+    answer_to (join_all (set (replicate (suc last) missing) k (kept us))) ≡ refused r → ⊥
 unfolding join_all
 afresh_unrefused zero zero us r h up e =
     let only : us ++ [] ≡ us = append-nil us in
-    let told : answer_to (kept us) ≡ answer.Refused r = rw only at e in
-    let f : answer.List (length us) ≡ answer.Refused r = sym (risen us up) ∙ told in
+    let told : answer_to (kept us) ≡ refused r = rw only at e in
+    let f : list_of (length us) ≡ refused r = sym (risen us up) ∙ told in
     let z : ◌≡◌ {A = ℕ} 0 1 = cc in omega arith
 afresh_unrefused zero (suc k) us r h up e = omega arith
 afresh_unrefused (suc last) zero us r h up e = let z : ◌≡◌ {A = ℕ} 0 1 = cc in omega arith
@@ -244,28 +236,28 @@ module _ (h : Held) (d cid : List ℕ) (f : DiscoveryFields) (name us : List ℕ
 
     -- 44 is told only where the last page's number is the collector's
     same_last : 512 * (last + 1) ≤ length h.memory → (r : Refusal) →
-        answer_to (join_all (pages_by (keeping c f us) (memory_with h.memory f us))) ≡ answer.Refused r → c.last_page ≡ last
+        answer_to (join_all (pages_by (keeping c f us) (memory_with h.memory f us))) ≡ refused r → c.last_page ≡ last
     same_last room r e =
         decide (c.last_page =? last) (λ y. y)
         (λ n. absurd (afresh_unrefused last f.page us r numbers.0 numbers.2
         (sym (ap (λ (ps : List Page). answer_to (join_all ps)) (pages room ∙ afresh n)) ∙ e)))
 
     -- 44 moves the page alone: of the collector its count, of the memory its place; the other pages and the list stay as found.
-    pub refused_44_keeps : (r : Refusal) → answer_in (fed h d) ≡ answer.Refused r → r.number ≡ 44 →
+    pub refused_44_keeps : (r : Refusal) → answer_in (fed h d) ≡ refused r → r.number ≡ 44 →
         fed h d ≡ after (memory_with h.memory f us) h.list
-        (collected_of (collector_of c.cid c.last_page (set c.counts f.page (length us + 1))) (answer.Refused r))
+        (collected_of (collector_of c.cid c.last_page (set c.counts f.page (Some (length us)))) (refused r))
     unfolding counts_for
     refused_44_keeps r e n = let checks = take_in_checks c cid last h.memory h.list in ⊎_elim
         (λ (a : All checks).
         let is = does ∙ taken_in c cid f us h.memory h.list a in
         let all = join_all (pages_by (keeping c f us) (memory_with h.memory f us)) in
-        let told : answer_to all ≡ answer.Refused r = sym (ap answer_in is) ∙ e in
+        let told : answer_to all ≡ refused r = sym (ap answer_in is) ∙ e in
         let same = same_last a.1.0.0 r told in
         let counts = sym (chosen (c.last_page =? last) c.counts no_counts same refl) in
         is ∙ rw (told, (join_refused h.list all r told).1, counts) (rw same refl))
         (λ (s : (k : ℕ) × Stops k checks).
         let is = does ∙ stopped c cid f us h.memory h.list s.0 s.1 in
-        let g : answer.Refused (refusal_at s.0 checks) ≡ answer.Refused r = sym (ap answer_in is) ∙ e in
+        let g : refused (refusal_at s.0 checks) ≡ refused r = sym (ap answer_in is) ∙ e in
         let q : refusal_at s.0 checks ≡ r = cc in
         absurd (not_44 c cid f us h.memory h.list s.0 s.1 (ap (λ (x : Refusal). x.number) q ∙ n)))
         (decides checks)

@@ -1,9 +1,5 @@
 -- Pages that are written are read as the pages of the list, and together they are the list. Assumes nothing.
-use Prim.Native.Nat.{ℕ, ◌+◌, ◌*◌, ◌≤◌}
-use mathlib.Core.Path.{◌≡◌, ap, subst, sym, ◌∙◌}
-use mathlib.Core.List.{List}
-use native.Mathlib.Omega.{arith}
-use lib.ListN.{length, drop}
+use Rattle.std.proofs.Common.{◌≡◌, ℕ, ◌+◌, ◌*◌, ◌≤◌, List, length, drop, Ok, Err, sym, ap, ◌∙◌, subst, arith}
 use Rattle.wire.specs.Bytes.{Words}
 use Rattle.wire.specs.Fields.{join}
 use Rattle.wire.proofs.Bytes.{words_drop, words_take}
@@ -12,9 +8,7 @@ use Rattle.refusal.proofs.Laws.{all_hold, all_++}
 use Rattle.discovery.specs.Universes.{order_checks}
 use Rattle.packet.specs.declared.Packet.{Packet}
 use Rattle.parts.specs.Parts.{listed_at, universes_span, universes_in}
-use Rattle.pack.specs.Writing.{packed_of, after_pack}
-use Rattle.pack.specs.declared.Packed.{Packed}
-use Rattle.pack.specs.declared.Packed.TheVariants.{Length, Refused}
+use Rattle.pack.specs.Writing.{Packed, packed_of, after_pack}
 use Rattle.demands.specs.Limits.{Rising, ReadableName, ReadableDiscovery}
 use Rattle.demands.proofs.Limits.{ascending_plainly}
 use Rattle.demands.proofs.Discovery.{return_discovery}
@@ -42,11 +36,11 @@ module _ (cid name us : List ℕ) (sixteen : length cid ≡ 16) (named : Readabl
   -- Each page of a list within the limits is written where the buffer holds it, and the buffer as it is then is read as that page, whatever stands
   -- behind it.
   pub page_returned : (k : ℕ) (buf : List ℕ) → k ≤ last_page_of us → page_length us k ≤ length buf →
-      (packed_of (page_write_checks (length buf) name us k) (page_length us k) ≡ Length (page_length us k)) × IsPage cid us k (written cid name us k buf)
+      (packed_of (page_write_checks (length buf) name us k) (page_length us k) ≡ Ok (page_length us k)) × IsPage cid us k (written cid name us k buf)
   unfolding packed_of
   page_returned k buf b room =
       let told =
-      all_hold Refused (page_write_checks (length buf) name us k) (Length (page_length us k))
+      all_hold Err (page_write_checks (length buf) name us k) (Ok (page_length us k))
       (all_++ (order_checks us) (numbered_checks (length buf) name us k) (rising→order us up) (b, (room, named))) in (
         told,
         subst (λ (p : Packed). IsPage cid us k (after_pack p (page_bytes cid name us k) buf)) (sym told)

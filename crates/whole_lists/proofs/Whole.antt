@@ -1,12 +1,8 @@
 -- All pages, fed in any order, some of them again, with anything between that is no page of that CID, yield their join; and those of a list that ascends
 -- the list. Assumes nothing.
-use Prim.Native.Nat.{ℕ, suc, zero, ◌+◌, ◌*◌, ◌≤◌, ◌<◌}
-use mathlib.Core.Path.{◌≡◌, refl, sym, ap, ◌∙◌}
-use mathlib.Core.List.{List, [], ◌∷◌, ◌++◌, map}
-use mathlib.Core.Logic.{inl, inr, ⊎_elim}
-use native.Mathlib.Omega.{arith}
-use lib.ListN.{length, take, drop, get_or, length-set, length-map, get_or-map}
-use lib.Seq.{take_at, length-sets, ext_get_or}
+use Rattle.std.proofs.Common.{◌≡◌, ℕ, zero, suc, ◌+◌, ◌*◌, ◌<◌, ◌≤◌, List, [], ◌∷◌, ◌++◌, map, length, get_or, take, drop, sym, refl, ap, ◌∙◌, inl, inr, ⊎_elim, arith, length-set, take_at, ext_get_or}
+use lib.ListN.{length-map, get_or-map}
+use lib.Seq.{length-sets}
 use Rattle.wire.specs.Bytes.{Bytes, Words}
 use Rattle.wire.specs.Fields.{join}
 use Rattle.wire.proofs.Laws.{sets_front}
@@ -20,8 +16,7 @@ use Rattle.universe_pages.proofs.Rising.{rising, order→rising}
 use Rattle.universe_pages.specs.Pages.{last_page_of, page_of, firsts}
 use Rattle.universe_pages.proofs.Pages.{join_pages, firsts_length, firsts_at, few_pages}
 use Rattle.page_collector.specs.Pages.{Page, missing, kept, join_all}
-use Rattle.page_collector.specs.Collect.{After, no_counts, fresh, keeping, memory_with, answer_to, list_with, joining}
-use Rattle.page_collector.specs.declared.Answer.TheVariants as answer
+use Rattle.page_collector.specs.Collect.{After, list_of, no_counts, fresh, keeping, memory_with, answer_to, list_with, joining}
 use Rattle.page_collector.proofs.Answered.{risen, risen_list}
 use Rattle.whole_lists.specs.Feed.{feed}
 use Rattle.whole_lists.specs.Captures.{Held, held, pages_held, fed, left, held_after_all, Each, Among, PageOf, NoPage, OfPages, IsPage, Ready}
@@ -187,7 +182,7 @@ module _ (cid us : List ℕ) (ascending : Rising us) (words : Words us) where
   -- the join of its pages is answered as the list
   as_list : (l : List ℕ) → 512 * (last_page_of us + 1) ≤ length l →
       let whole = kept (join (firsts (last_page_of us + 1) (page_of us))) in
-      (answer_to whole ≡ answer.List (length us)) × (list_with l whole ≡ us ++ drop (length us) l)
+      (answer_to whole ≡ list_of (length us)) × (list_with l whole ≡ us ++ drop (length us) l)
   as_list l room =
       let is = ap kept (join_pages us) in (
         ap answer_to is ∙ risen us up,
@@ -198,7 +193,7 @@ module _ (cid us : List ℕ) (ascending : Rising us) (words : Words us) where
   pub whole_list : (h : Held) (before ds : List (List ℕ)) (d : List ℕ) (k : ℕ) → Ready cid (last_page_of us) h → Each Bytes before → Each OfList ds →
       k ≤ last_page_of us → IsPage cid us k d → ((j : ℕ) → j ≤ last_page_of us → Among (IsPage cid us j) (d ∷ ds)) →
       let then = held_after_all (held_after_all h before) ds in
-      ((fed then d).collected.answer ≡ answer.List (length us)) × ((fed then d).list ≡ us ++ drop (length us) then.list)
+      ((fed then d).collected.answer ≡ list_of (length us)) × ((fed then d).list ≡ us ++ drop (length us) then.list)
   whole_list h before ds d k r bytes all b p among =
       let then = held_after_all (held_after_all h before) ds in
       let is = whole_join cid (last_page_of us) (page_of us) few_pages_of h before ds d k r bytes all b p among in

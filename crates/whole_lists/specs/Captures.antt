@@ -6,9 +6,8 @@ use Rattle.demands.specs.Content.{discovery_content, meaning}
 use Rattle.universe_pages.specs.Pages.{last_page_of, page_of}
 use Rattle.universe_pages.specs.Writing.{page_write_checks, page_bytes, page_length}
 use Rattle.page_collector.specs.declared.Collector.{Collector}
-use Rattle.page_collector.specs.declared.Answer.{Answer}
 use Rattle.page_collector.specs.Pages.{Page}
-use Rattle.page_collector.specs.Collect.{After, pages_by, collect_of}
+use Rattle.page_collector.specs.Collect.{Answer, After, pages_by, collect_of}
 
 -- a collector and what is lent to it, between two datagrams
 pub record Held : Type 0 where

@@ -3,10 +3,7 @@
 use Rattle.std.specs.Prelude.{ℕ, List, [], ◌∷◌, replicate}
 use Rattle.refusal.specs.Check.{refusal, preamble, nowhere}
 use Rattle.pack.specs.Writing.{discovery_bytes, synchronization_bytes}
-use Rattle.page_collector.specs.Collect.{fresh}
-use Rattle.page_collector.specs.declared.Answer.{Answer}
-use Rattle.page_collector.specs.declared.Answer.TheVariants.{Kept, Refused}
-use Rattle.page_collector.specs.declared.Answer.TheVariants as answer
+use Rattle.page_collector.specs.Collect.{Answer, list_of, page_missing, refused, fresh}
 use Rattle.whole_lists.specs.Captures.{Held, held}
 
 abbrev pub page : ℕ → ℕ → ℕ → List ℕ → List ℕ
@@ -24,20 +21,20 @@ step d a = record { datagram = d; answer = a }
 -- that overlap, until one is replaced
 unfoldable pub steps : List Step
 steps =
-    step (page 7 2 2 (5 ∷ 9 ∷ [])) Kept
-    ∷ step (page 7 0 2 (1 ∷ 2 ∷ [])) Kept
-    ∷ step (page 7 1 2 []) (answer.List 4)
-    ∷ step (page 7 1 2 (3 ∷ [])) (answer.List 5)
-    ∷ step (page 7 0 0 (0 ∷ 65535 ∷ [])) (answer.List 2)
-    ∷ step (page 7 1 2 (3 ∷ [])) Kept
-    ∷ step (page 7 0 1 (1 ∷ 5 ∷ [])) Kept
-    ∷ step (page 8 1 1 (6 ∷ [])) (Refused (refusal 42 nowhere 0))
-    ∷ step (page 8 1 9 (6 ∷ [])) (Refused (refusal 42 nowhere 0))
-    ∷ step (page 7 1 3 (6 ∷ [])) (Refused (refusal 43 nowhere 0))
-    ∷ step (synchronization_bytes (replicate 16 7) (record { sequence_number = 0; synchronization_address = 1 })) (Refused (refusal 31 nowhere 0))
-    ∷ step [] (Refused (refusal 1 preamble 0))
-    ∷ step (page 7 1 1 (5 ∷ 9 ∷ [])) (Refused (refusal 44 nowhere 0))
-    ∷ step (page 7 1 1 (6 ∷ 9 ∷ [])) (answer.List 4)
+    step (page 7 2 2 (5 ∷ 9 ∷ [])) page_missing
+    ∷ step (page 7 0 2 (1 ∷ 2 ∷ [])) page_missing
+    ∷ step (page 7 1 2 []) (list_of 4)
+    ∷ step (page 7 1 2 (3 ∷ [])) (list_of 5)
+    ∷ step (page 7 0 0 (0 ∷ 65535 ∷ [])) (list_of 2)
+    ∷ step (page 7 1 2 (3 ∷ [])) page_missing
+    ∷ step (page 7 0 1 (1 ∷ 5 ∷ [])) page_missing
+    ∷ step (page 8 1 1 (6 ∷ [])) (refused (refusal 42 nowhere 0))
+    ∷ step (page 8 1 9 (6 ∷ [])) (refused (refusal 42 nowhere 0))
+    ∷ step (page 7 1 3 (6 ∷ [])) (refused (refusal 43 nowhere 0))
+    ∷ step (synchronization_bytes (replicate 16 7) (record { sequence_number = 0; synchronization_address = 1 })) (refused (refusal 31 nowhere 0))
+    ∷ step [] (refused (refusal 1 preamble 0))
+    ∷ step (page 7 1 1 (5 ∷ 9 ∷ [])) (refused (refusal 44 nowhere 0))
+    ∷ step (page 7 1 1 (6 ∷ 9 ∷ [])) (list_of 4)
     ∷ []
 
 -- a fresh collector with room for three pages

@@ -1,15 +1,12 @@
 -- Laws of fields and runs: what lies past the end, and writes that follow one another. Assumes nothing.
-use Prim.Native.Nat.{ℕ, zero, suc, ◌+◌, ◌-◌, ◌≤◌, ◌<◌, min}
-use mathlib.Core.Path.{◌≡◌, refl, sym, ap, ◌∙◌}
-use mathlib.Core.List.{List, [], ◌∷◌, ◌++◌, append-nil}
-use native.Mathlib.Nat.{add-zero, zero-add, add-suc, suc-add}
-use native.Mathlib.Numerals.{add-one}
-use native.Mathlib.Omega.{arith}
-use lib.ListN.{length, take, drop, get_or, set, replicate, length-drop, length-set, drop_of_length-le, get_or-eq_default}
-use lib.Seq.{sets, sets-eq, set_out, take-suc, take_all, take-length, length-take-le, drop-cons, get_or-drop}
+use Rattle.std.proofs.Common.{ℕ, zero, suc, ◌+◌, ◌-◌, ◌≤◌, ◌<◌, min, ◌≡◌, refl, sym, ap, ◌∙◌, List, [], ◌∷◌, ◌++◌, length, take, drop, get_or, set, replicate, w32, rules, arith, append_assoc, append-nil, add-zero, zero-add, add-suc, suc-add, add-one, length-drop, length-set, drop_of_length-le, drop-drop, take-suc, take_all, length-take-le, drop-cons, get_or-drop}
+use Rattle.std.proofs.Math.ListN.{get_or-eq_default}
+use Rattle.std.proofs.Math.Seq.{set_out, take-length}
+use Rattle.std.proofs.lemmas.List.Edits.{sets, sets-eq}
 use Rattle.refusal.specs.Check.{◌≤?◌}
 use Rattle.refusal.proofs.Tests.{decide}
-use Rattle.wire.specs.Fields.{byte_at, u16_at, u32_at}
+use Rattle.std.specs.Int.{to_be_bytes}
+use Rattle.wire.specs.Fields.{byte_at, u16_at, u32_at, be32}
 
 -- Fields past the end are zero.
 byte_past : (s : List ℕ) {at : ℕ} (k : ℕ) → length s ≤ at → byte_at s (at + k) ≡ 0
@@ -74,6 +71,13 @@ sets_take [] l i (suc n) h = refl
 sets_take (v ∷ vs) l i zero h = sym (sets_past (v ∷ vs) l i (omega arith))
 sets_take (v ∷ vs) l i (suc n) h = sets_take vs (set l i v) (suc i) n (simp length-set (omega arith))
 
+-- A run's front copied into the part that has room for it, as `buf[i..i + n].copy_from_slice(&vs[..n])` leaves the whole.
+pub copied_part : (vs l : List ℕ) (i k n : ℕ) {m : List ℕ} → m ≡ take n vs → k ≡ n → i ≤ length l → n ≡ min (length vs) (length l - i) → take i l ++ (m ++ drop k (drop i l)) ≡ sets l i vs
+copied_part vs l i k n e same h least =
+    let size : length (take n vs) ≡ n = length-take-le n vs (omega arith) in
+    let after : drop (i + n) l ≡ drop (i + length (take n vs)) l = rw size in
+    rw (e, same, drop-drop, after, ← append_assoc) (sym (sets-eq (take n vs) l i (omega arith)) ∙ sets_take vs l i n (omega arith))
+
 -- A run written from a place on leaves what stands before it, and is written at the front of the rest.
 sets_cons : (vs l : List ℕ) (x i : ℕ) → sets (x ∷ l) (suc i) vs ≡ x ∷ sets l i vs
 sets_cons [] l x i = refl
@@ -97,3 +101,7 @@ pub take_zeros : (k n : ℕ) → k ≤ n → take k (replicate {A = ℕ} n 0) �
 take_zeros zero n h = refl
 take_zeros (suc k) zero h = absurd (omega arith)
 take_zeros (suc k) (suc n) h = ap (λ (l : List ℕ). 0 ∷ l) (take_zeros k n (omega arith))
+
+-- The bytes of a number, as `to_be_bytes` of std has them.
+pub be32_bytes : (n : ℕ) → to_be_bytes w32 n ≡ be32 n
+be32_bytes n = search rules

@@ -6,8 +6,9 @@ ghost use Rattle.std.specs.Prelude.{◌≡◌, length};
 use discovery::DiscoveryFields;
 use extended::synchronization::SynchronizationFields;
 use framing::DataFields;
-use pack::Packed;
+use refusal::Refusal;
 use std::io;
+use text::Text;
 
 const UNTOUCHED: u8 = 0xee;
 
@@ -17,24 +18,30 @@ const LINE_ROOM: usize = 4096;
 
 const CID: [u8; 16] = [1, 2, 3, 4, 5, 6, 7, 8, 9, 10, 11, 12, 13, 14, 15, 16];
 
-fn put_answer(out: &mut [u8], at: usize, packed: Packed) -> usize {
+fn put_answer(out: &mut Text, packed: Result<usize, Refusal>) {
     match packed {
-        Packed::Length(n) => text::put_field(out, at, b": packed ", n as u64),
-        Packed::Refused(r) => {
-            let at = text::put_field(out, at, b": refused ", r.number as u64);
-            text::put_field(out, at, b" value ", r.value as u64)
+        Ok(n) => out.put_field(b": packed ", n as u64),
+        Err(r) => {
+            out.put_field(b": refused ", r.number as u64);
+            out.put_field(b" value ", r.value as u64);
         }
     }
 }
 
-fn show(rt: &impl Print, words: &[u8], packed: Packed, buf: &[u8]) -> io::Result<()> {
-    let mut out = [0; LINE_ROOM];
-    let at = text::put(&mut out, 0, words);
-    let at = put_answer(&mut out, at, packed);
-    let at = text::put(&mut out, at, b"\n");
-    let at = text::put_hex(&mut out, at, buf);
-    let at = text::put(&mut out, at, b"\n");
-    rt.write_all(wire::part(&out, 0, at))
+fn show(
+    rt: &impl Print,
+    words: &[u8],
+    packed: Result<usize, Refusal>,
+    buf: &[u8],
+) -> io::Result<()> {
+    let mut room = [0; LINE_ROOM];
+    let mut out = Text::new(&mut room);
+    out.put(words);
+    put_answer(&mut out, packed);
+    out.put(b"\n");
+    out.put_hex(buf);
+    out.put(b"\n");
+    rt.write_all(out.written())
 }
 
 fn data_into(
@@ -175,10 +182,8 @@ fn many_universes() -> [u16; 513]
     ensures { 513 ≡ length result }
 {
     let mut many = [0; 513];
-    let mut i: u16 = 0;
-    while i < 513 {
-        many[i as usize] = i * 125;
-        i += 1;
+    for (i, u) in many.iter_mut().enumerate() {
+        *u = i as u16 * 125;
     }
     many
 }

@@ -120,7 +120,7 @@ fn checks_have_one_wording() {
         check.to_string()
     });
     let in_rust: Words = reasons.into_iter().zip(told).collect();
-    assert_eq!(words::written(&sources, "put_wrong"), in_rust);
+    assert_eq!(words::answered(&sources, "wrong_words"), in_rust);
     assert_eq!(words::defined_for_reasons(&rattle::definitions()), in_rust);
 }
 
@@ -139,7 +139,7 @@ fn layers_have_one_wording() {
             (name, layer.to_string())
         })
         .collect();
-    assert_eq!(words::written(&sources, "put_layer"), in_rust);
+    assert_eq!(words::answered(&sources, "layer_words"), in_rust);
     assert_eq!(words::defined_for_layers(&rattle::definitions()), in_rust);
 }
 

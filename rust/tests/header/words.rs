@@ -19,11 +19,11 @@ pub fn reasons(sources: &Sources) -> Vec<String> {
     cases.split_whitespace().map(name).collect()
 }
 
-/// What a function writes, by the cases of its match: `Reason::Flags => text::put(out, at, b".."),`, on one line or on several.
-pub fn written(sources: &Sources, function: &str) -> Words {
+/// What a function answers, by the cases of its match: `Reason::Flags => b"..",`, on one line or on several.
+pub fn answered(sources: &Sources, function: &str) -> Words {
     let (body, _) =
         between(&sources[SOURCE], &format!("fn {function}("), "\n}").expect("the function");
-    let pieces: Vec<_> = body.split(" => text::put(").collect();
+    let pieces: Vec<_> = body.split(" => ").collect();
     let arms = pieces.windows(2);
     arms.map(|arm| {
         let case = arm[0].lines().last().expect("a case");

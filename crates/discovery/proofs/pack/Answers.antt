@@ -28,5 +28,5 @@ written l headed listed at flags f us p q r = cc (sets_append (discovery_head f 
 
 pub returns : goal.returns
 returns c = let a = c.args in
-    written a.buf.now _ _ a.at _ a.fields a.universes.now c.flags_and_length-flags.ensures c.copy.ensures
-    c.put_universes.ensures
+    written a.buf.now _ _ a.at _ a.fields a.universes.now c.flags_and_length-flags.ensures
+    (rw (c.to_be_bytes.ensures, c.to_be_bytes-2.ensures) at c.copy.ensures) c.put_universes.ensures

@@ -1,9 +1,5 @@
-use Prim.Native.Nat.{ℕ, ◌+◌, ◌*◌, ◌≤◌, ◌<◌}
-use mathlib.Core.List.{List}
-use mathlib.Core.Path.{refl, sym, ap, ◌∙◌}
-use native.Mathlib.Omega.{arith}
-use lib.ListN.{length, get_or}
-use lib.Seq.{sets, take_all}
+use Rattle.std.proofs.Common.{ℕ, ◌+◌, ◌*◌, ◌<◌, List, length, get_or, refl, sym, ap, ◌∙◌, arith}
+use Rattle.std.proofs.lemmas.List.Edits.{sets}
 use Rattle.wire.specs.Fields.{be16}
 use Rattle.wire.proofs.Laws.{sets_past}
 use Rattle.discovery.specs.Universes.{universe_bytes}
@@ -16,21 +12,13 @@ returns-then-buf-at c = let a = c.args in
 
 pub loop-i-init : goal.loop-i-init
 unfolding universe_bytes
-loop-i-init c = (omega arith, refl, refl)
+loop-i-init c = refl
 
 pub loop-i-preserved : goal.loop-i-preserved
 loop-i-preserved c = let a = c.args in
     let us = a.universes.now in
     let i = c.loop-i.i in
-    let k : i < length us = omega arith in (
-      omega arith,
-      omega arith,
-      c.put_u16.ensures
-          ∙ ap (λ (b : List ℕ). sets b (a.at + 2 * i) (be16 (get_or us i 0))) c.loop-i.invariant.2
-          ∙ sym (bytes_more us a.buf.now a.at i k),
-    )
-
-pub returns : goal.returns
-returns c = let a = c.args in
-    let k : length a.universes.now ≤ c.loop-i.i = omega arith in
-    c.loop-i.invariant.2 ∙ ap (λ (us : List ℕ). sets a.buf.now a.at (universe_bytes us)) (take_all c.loop-i.i a.universes.now k)
+    let k : i < length us = omega arith in
+    c.put_u16.ensures
+    ∙ ap (λ (b : List ℕ). sets b (a.at + 2 * i) (be16 (get_or us i 0))) c.loop-i.invariant
+    ∙ sym (bytes_more us a.buf.now a.at i k)

@@ -1,9 +1,5 @@
-use Prim.Native.Nat.{ℕ, ◌+◌}
-use mathlib.Core.List.{List, ◌∷◌, ◌++◌}
-use mathlib.Core.Path.{◌≡◌, sym}
-use native.Mathlib.Omega.{arith}
-use lib.ListN.{length}
-use lib.Seq.{sets}
+use Rattle.std.proofs.Common.{ℕ, ◌+◌, List, ◌∷◌, ◌++◌, ◌≡◌, sym, arith, length}
+use Rattle.std.proofs.lemmas.List.Edits.{sets}
 use Rattle.wire.specs.Fields.{be16}
 use Rattle.wire.proofs.Laws.{sets_append, sets_past}
 use Rattle.pdu.specs.Head.{flags_field}
@@ -26,4 +22,5 @@ written l headed copied at flags values p q r = cc (sets_append (dmp_head (lengt
 
 pub returns : goal.returns
 returns c = let a = c.args in
-    written a.buf.now _ _ a.at _ a.values.now c.flags_and_length-flags.ensures c.copy.ensures c.copy-2.ensures
+    written a.buf.now _ _ a.at _ a.values.now c.flags_and_length-flags.ensures
+    (rw (c.to_be_bytes.ensures, c.to_be_bytes-2.ensures, c.to_be_bytes-3.ensures, c.to_be_bytes-4.ensures) at c.copy.ensures) c.copy-2.ensures

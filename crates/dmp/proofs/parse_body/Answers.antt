@@ -5,12 +5,12 @@ use native.Mathlib.Omega.{arith}
 use Rattle.refusal.specs.Check.{reading}
 use Rattle.refusal.proofs.Laws.{stop, pass, reading_++}
 use Rattle.dmp.specs.Layer.{count_of, start_checks, count_checks, body_of, counted_of}
-use Rattle.dmp.specs.declared.Dmp.TheVariants.{Values, Refused}
+use Rattle.std.specs.Prelude.{Ok, Err}
 use Rattle.dmp.proofs.parse_body.Goals as goal
 
-by_count : (p : List ℕ) (len vec : ℕ) → body_of p len vec ≡ reading Refused (start_checks p len vec) (counted_of p len)
+by_count : (p : List ℕ) (len vec : ℕ) → body_of p len vec ≡ reading Err (start_checks p len vec) (counted_of p len)
 unfolding body_of counted_of
-by_count p len vec = reading_++ Refused (start_checks p len vec) (count_checks p len) (Values (count_of p))
+by_count p len vec = reading_++ Err (start_checks p len vec) (count_checks p len) (Ok (count_of p))
 
 pub returns-then-p-length : goal.returns-then-p-length
 unfolding body_of

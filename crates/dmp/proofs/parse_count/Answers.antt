@@ -2,7 +2,7 @@ use mathlib.Core.Path.{ap}
 use native.Mathlib.Omega.{arith}
 use Rattle.refusal.proofs.Laws.{stop, stop_value, pass}
 use Rattle.dmp.specs.Layer.{counted_of}
-use Rattle.dmp.specs.declared.Dmp.TheVariants.{Values}
+use Rattle.std.specs.Prelude.{Ok}
 use Rattle.dmp.proofs.parse_count.Goals as goal
 
 pub returns-then-p-lt-PROPERTY_VALUES_FIELD_INDEX : goal.returns-then-p-lt-PROPERTY_VALUES_FIELD_INDEX
@@ -23,4 +23,4 @@ returns-then-count-gt-UNIVERSE_CHANNEL_CAPACITY c = stop 3 _ _ _ (omega arith) c
 
 pub returns : goal.returns
 unfolding counted_of
-returns c = pass _ _ _ (omega arith) (ap Values c.u16_at-count.ensures)
+returns c = pass _ _ _ (omega arith) (ap Ok c.u16_at-count.ensures)

@@ -1,4 +1,4 @@
-use borrow.Author.Rules.{rules}
+use Rattle.std.proofs.Common.{rules}
 use Rattle.wire.specs.Bytes.{Bytes}
 use Rattle.line.proofs.Fits.{entry_fits}
 use Rattle.dump.proofs.put_entry.Goals as goal

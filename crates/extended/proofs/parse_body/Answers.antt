@@ -1,80 +1,79 @@
-use Prim.Native.Nat.{ℕ}
-use mathlib.Core.List.{List}
-use mathlib.Core.Path.{◌≡◌, refl, sym, ap, ap₂, ◌∙◌}
+use Rattle.std.specs.Prelude.{ℕ, Bool, true, false, List, ◌≡◌, Result, Ok, Err}
+use mathlib.Core.Path.{refl, sym, ap, ap₂, ◌∙◌}
 use native.Mathlib.Omega.{arith}
-use Rattle.refusal.specs.Check.{◌=?◌, choose, reading}
+use Rattle.refusal.specs.declared.Refusal.{Refusal}
+use Rattle.refusal.specs.Check.{Test, outcome, ◌=?◌, pick, choose, reading}
 use Rattle.refusal.proofs.Tests.{chosen, passed_over}
-use Rattle.refusal.proofs.Laws.{stop, pass, inner, reading_++, reading_choose, by_answer}
-use Rattle.name.specs.Name.{zero_at}
-use Rattle.name.specs.Name.{name_field}
+use Rattle.refusal.proofs.Laws.{stop, pass, after, after_all, reading_++, reading_choose, handed_on, gone_on}
+use Rattle.name.specs.Name.{name_field, zero_at}
 use Rattle.extended.specs.Synchronization.{synchronization_checks, synchronization_of, fields_of}
 use Rattle.extended.specs.UniverseDiscovery.{discovery_framing_checks, discovery_framing_of, discovery_part, layer_named}
-use Rattle.extended.specs.Extended.{kind_checks, body_of}
-use Rattle.extended.specs.declared.synchronization.Synchronization.{Synchronization}
-use Rattle.extended.specs.declared.synchronization.Synchronization.TheVariants as synchronization
-use Rattle.extended.specs.declared.universe_discovery.DiscoveryFraming.{DiscoveryFraming}
-use Rattle.extended.specs.declared.universe_discovery.DiscoveryFraming.TheVariants as discovery
+use Rattle.extended.specs.Extended.{kind_checks, body_of, layer_of}
 use Rattle.extended.specs.declared.Extended.{Extended}
-use Rattle.extended.specs.declared.Extended.TheVariants as extended
-use Rattle.extended.specs.declared.Extended.TheVariants.{Refused}
+use Rattle.extended.specs.declared.Extended.TheVariants.{Synchronization, Discovery}
+use Rattle.extended.specs.declared.synchronization.SynchronizationFields.{SynchronizationFields}
+use Rattle.extended.specs.declared.universe_discovery.DiscoveryFraming.{DiscoveryFraming}
 use Rattle.extended.proofs.parse_body.Goals as goal
 
 -- the answer, by what the layer that the vector names is found to be
-abbrev after-synchronization : Synchronization → Extended
-after-synchronization (synchronization.Refused r) = Refused r
-after-synchronization (synchronization.Layer fields) = extended.Synchronization fields
+abbrev synchronization : SynchronizationFields → Result Extended Refusal
+synchronization fields = Ok (Synchronization fields)
 
-abbrev after-discovery : DiscoveryFraming → Extended
-after-discovery (discovery.Refused r) = Refused r
-after-discovery (discovery.Layer name fields n) = extended.Discovery name fields n
+abbrev discovery : DiscoveryFraming → Result Extended Refusal
+discovery layer = Ok (Discovery layer)
+
+either : (t : Test) (a b : Extended) → ◌≡◌ {A = Result Extended Refusal} (Ok (choose t a b)) (choose t (Ok a) (Ok b))
+unfolding choose
+either t a b = by (outcome t)
+  where
+    by : (o : Bool) → ◌≡◌ {A = Result Extended Refusal} (Ok (pick o a b)) (pick o (Ok a) (Ok b))
+    by true = refl
+    by false = refl
 
 by_kind : (whole : ℕ) (p : List ℕ) (len vec : ℕ) →
     body_of whole p len vec
-    ≡ reading Refused (kind_checks whole len vec)
-    (choose (vec =? 1) (after-synchronization (synchronization_of p len)) (after-discovery (discovery_framing_of p len)))
+    ≡ reading Err (kind_checks whole len vec)
+    (choose (vec =? 1) (after Err synchronization (synchronization_of p len)) (after Err discovery (discovery_framing_of p len)))
 unfolding body_of synchronization_of discovery_framing_of
 by_kind whole p len vec =
-    let q = discovery_part p len in
-    let n = zero_at (name_field p) in
-    reading_++ Refused (kind_checks whole len vec) _ _
-    ∙ ap (reading Refused (kind_checks whole len vec))
-    (reading_choose Refused (vec =? 1) (synchronization_checks p len) (discovery_framing_checks p len) _ _
-    ∙ ap₂ (choose (vec =? 1))
-    (inner after-synchronization synchronization.Refused Refused (synchronization_checks p len) (synchronization.Layer (fields_of p)) _ (λ r. refl) refl)
-    (inner after-discovery discovery.Refused Refused (discovery_framing_checks p len) (layer_named n q) _ (λ r. refl) refl))
+    let found = layer_named (zero_at (name_field p)) (discovery_part p len) in
+    let kinds = kind_checks whole len vec in
+    let first = synchronization_checks p len in
+    let second = discovery_framing_checks p len in
+    reading_++ Err kinds (choose (vec =? 1) first second) (Ok (layer_of p len vec))
+    ∙ ap (reading Err kinds)
+    (ap (reading Err (choose (vec =? 1) first second)) (either (vec =? 1) (Synchronization (fields_of p)) (Discovery found))
+    ∙ reading_choose Err (vec =? 1) first second (synchronization (fields_of p)) (discovery found)
+    ∙ ap₂ (choose (vec =? 1)) (after_all Err synchronization first (fields_of p)) (after_all Err discovery second found))
 
 pub returns-then-whole-length : goal.returns-then-whole-length
 unfolding body_of
-returns-then-whole-length c = stop 0 _ _ _ (omega arith) (ap Refused c.new.ensures)
+returns-then-whole-length c = stop 0 _ _ _ (omega arith) c.refuse.ensures
 
-pub returns-in-Refused : goal.returns-in-Refused
-returns-in-Refused c =
+pub returns-in_err-fields : goal.returns-in_err-fields
+returns-in_err-fields c =
     pass _ _ _ (omega arith)
-    (chosen _ _ _ c.if-vector-eq-VECTOR_E131_EXTENDED_SYNCHRONIZATION.true
-    (by_answer after-synchronization (synchronization_of _ _) (synchronization.Refused _) (sym c.parse.ensures ∙ c.in-Refused.is) refl))
+    (chosen _ _ _ c.if-vector-eq-VECTOR_E131_EXTENDED_SYNCHRONIZATION.true (handed_on synchronization c.in_err-fields.ensures c.from_residual.ensures.1))
     ∙ sym (by_kind _ _ _ _)
 
-pub returns-in-Layer : goal.returns-in-Layer
-returns-in-Layer c =
+pub returns-then-vector-eq-VECTOR_E131_EXTENDED_SYNCHRONIZATION : goal.returns-then-vector-eq-VECTOR_E131_EXTENDED_SYNCHRONIZATION
+returns-then-vector-eq-VECTOR_E131_EXTENDED_SYNCHRONIZATION c =
     pass _ _ _ (omega arith)
-    (chosen _ _ _ c.if-vector-eq-VECTOR_E131_EXTENDED_SYNCHRONIZATION.true
-    (by_answer after-synchronization (synchronization_of _ _) (synchronization.Layer _) (sym c.parse.ensures ∙ c.in-Layer.is) refl))
+    (chosen _ _ _ c.if-vector-eq-VECTOR_E131_EXTENDED_SYNCHRONIZATION.true (gone_on synchronization c.in_ok-fields.ensures refl))
     ∙ sym (by_kind _ _ _ _)
 
-pub returns-in-Refused-parse : goal.returns-in-Refused-parse
-returns-in-Refused-parse c =
+pub returns-in_err-layer : goal.returns-in_err-layer
+returns-in_err-layer c =
     pass _ _ _ (omega arith)
-    (passed_over _ _ _ c.if-vector-eq-VECTOR_E131_EXTENDED_SYNCHRONIZATION.false
-    (by_answer after-discovery (discovery_framing_of _ _) (discovery.Refused _) (sym c.parse-then-vector-eq-VECTOR_E131_EXTENDED_DISCOVERY.ensures ∙ c.in-Refused-parse.is) refl))
+    (passed_over _ _ _ c.if-vector-eq-VECTOR_E131_EXTENDED_SYNCHRONIZATION.false (handed_on discovery c.in_err-layer.ensures c.from_residual-in_err-layer.ensures.1))
     ∙ sym (by_kind _ _ _ _)
 
-pub returns-in-Layer-parse : goal.returns-in-Layer-parse
-returns-in-Layer-parse c =
+pub returns-then-vector-eq-VECTOR_E131_EXTENDED_DISCOVERY : goal.returns-then-vector-eq-VECTOR_E131_EXTENDED_DISCOVERY
+returns-then-vector-eq-VECTOR_E131_EXTENDED_DISCOVERY c =
     pass _ _ _ (omega arith)
-    (passed_over _ _ _ c.if-vector-eq-VECTOR_E131_EXTENDED_SYNCHRONIZATION.false
-    (by_answer after-discovery (discovery_framing_of _ _) (discovery.Layer _ _ _) (sym c.parse-then-vector-eq-VECTOR_E131_EXTENDED_DISCOVERY.ensures ∙ c.in-Layer-parse.is) refl))
+    (passed_over _ _ _ c.if-vector-eq-VECTOR_E131_EXTENDED_SYNCHRONIZATION.false (gone_on discovery c.in_ok-layer.ensures refl))
     ∙ sym (by_kind _ _ _ _)
 
 pub returns : goal.returns
 unfolding body_of
-returns c = stop 1 _ _ _ (omega arith) (ap Refused c.new-2.ensures)
+returns c = stop 1 _ _ _ (omega arith) c.refuse-2.ensures

@@ -4,4 +4,4 @@ use Rattle.field_text.proofs.put_synchronization_fields.Goals as goal
 
 pub returns : goal.returns
 unfolding synchronization_text
-returns c = put_then c.put_field-next.ensures (put_last c.put_field.ensures)
+returns c = put_then c.put_field.ensures (put_last c.put_field-2.ensures)

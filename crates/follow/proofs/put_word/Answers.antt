@@ -2,4 +2,4 @@ use Rattle.text.proofs.Puts.{put_then}
 use Rattle.follow.proofs.put_word.Goals as goal
 
 pub returns : goal.returns
-returns c = put_then c.put_decimal-next.ensures c.put.ensures
+returns c = put_then c.put_decimal.ensures c.put.ensures

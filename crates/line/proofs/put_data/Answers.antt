@@ -1,4 +1,4 @@
-use mathlib.Core.List.{append_assoc}
+use Rattle.std.proofs.Common.{append_assoc}
 use Rattle.text.proofs.Puts.{put_then, put_last, put_as}
 use Rattle.line.specs.Lines.{data_line}
 use Rattle.line.proofs.put_data.Goals as goal
@@ -7,6 +7,6 @@ pub returns : goal.returns
 unfolding data_line
 returns c =
     put_as
-    (put_then c.put_named-next.ensures
-    (put_then c.put_data_fields-next.ensures (put_then c.put_field-next.ensures (put_last c.put.ensures))))
+    (put_then c.put_named.ensures
+    (put_then c.put_data_fields.ensures (put_then c.put_field.ensures (put_last c.put.ensures))))
     (simp append_assoc)

@@ -1,4 +1,4 @@
-use mathlib.Core.List.{append_assoc}
+use Rattle.std.proofs.Common.{append_assoc}
 use Rattle.text.proofs.Puts.{put_then, put_last, put_as}
 use Rattle.line.specs.Lines.{discovery_line}
 use Rattle.line.proofs.put_discovery.Goals as goal
@@ -7,6 +7,6 @@ pub returns : goal.returns
 unfolding discovery_line
 returns c =
     put_as
-    (put_then c.put_named-next.ensures
-    (put_then c.put_page-next.ensures (put_then c.put_field-next.ensures (put_last c.put.ensures))))
+    (put_then c.put_named.ensures
+    (put_then c.put_page.ensures (put_then c.put_field.ensures (put_last c.put.ensures))))
     (simp append_assoc)

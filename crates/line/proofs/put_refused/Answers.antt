@@ -4,4 +4,4 @@ use Rattle.line.proofs.put_refused.Goals as goal
 
 pub returns : goal.returns
 unfolding refused_line
-returns c = put_then c.put_decimal-next.ensures (put_then c.put_refusal-next.ensures (put_last c.put.ensures))
+returns c = put_then c.put_decimal.ensures (put_then c.put_refusal.ensures (put_last c.put.ensures))

@@ -5,5 +5,5 @@ use Rattle.line.proofs.put_synchronization.Goals as goal
 pub returns : goal.returns
 unfolding synchronization_line
 returns c =
-    put_then c.put_decimal-next.ensures
-    (put_then c.put-next.ensures (put_then c.put_synchronization_fields-next.ensures (put_last c.put.ensures)))
+    put_then c.put_decimal.ensures
+    (put_then c.put.ensures (put_then c.put_synchronization_fields.ensures (put_last c.put-2.ensures)))

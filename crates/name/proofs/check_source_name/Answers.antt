@@ -7,12 +7,12 @@ use Rattle.name.proofs.check_source_name.Goals as goal
 
 pub returns-then-name-ge-E131_SOURCE_NAME_FIELD_LENGTH : goal.returns-then-name-ge-E131_SOURCE_NAME_FIELD_LENGTH
 unfolding checked_of
-returns-then-name-ge-E131_SOURCE_NAME_FIELD_LENGTH c = stop 0 _ _ _ (omega arith) (rw c.new.ensures)
+returns-then-name-ge-E131_SOURCE_NAME_FIELD_LENGTH c = stop 0 _ _ _ (omega arith) c.refuse.ensures
 
 pub returns-then-text-name : goal.returns-then-text-name
 unfolding checked_of
 returns-then-text-name c = let known : Tells c.args.name.now c.walk-text.result = told c.args.name.now c.walk-text.result c.walk-text.ensures in
-    stop 1 _ _ _ (omega (arith, known)) (rw c.new-then-text-name.ensures)
+    stop 1 _ _ _ (omega (arith, known)) c.refuse-then-text-name.ensures
 
 pub malformed-requires : goal.malformed-requires
 malformed-requires c = let known : Tells c.args.name.now c.walk-text.result = told c.args.name.now c.walk-text.result c.walk-text.ensures in

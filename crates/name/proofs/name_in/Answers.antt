@@ -7,7 +7,7 @@ use Rattle.name.proofs.name_in.Goals as goal
 pub returns-then-field-text : goal.returns-then-field-text
 unfolding source_name_of
 returns-then-field-text c = let known : Tells c.args.field.now c.walk-text.result = told c.args.field.now c.walk-text.result c.walk-text.ensures in
-    stop 0 _ _ _ (omega (arith, known)) (rw c.new.ensures)
+    stop 0 _ _ _ (omega (arith, known)) c.refuse.ensures
 
 pub malformed-requires : goal.malformed-requires
 malformed-requires c = let known : Tells c.args.field.now c.walk-text.result = told c.args.field.now c.walk-text.result c.walk-text.ensures in

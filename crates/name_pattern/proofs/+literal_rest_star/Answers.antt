@@ -38,4 +38,4 @@ star-loop-from-preserved t c =
     let n = c.args.name.now in
     let from = c.loop-from.from in
     let said = rw (steps.part_from from n) at c.in-NotHere.ensures in
-    (omega arith, steps.not_from_here p n from said c.loop-from.invariant.1)
+    steps.not_from_here p n from said c.loop-from.invariant

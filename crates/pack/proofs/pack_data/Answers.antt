@@ -1,17 +1,14 @@
-use mathlib.Core.Path.{◌≡◌, refl, sym, ◌∙◌}
-use borrow.Author.Rules.{rules}
-use lib.ListN.{length}
+use Rattle.std.proofs.Common.{◌≡◌, length, rules}
 use Rattle.pack.specs.Writing.{data_bytes}
-use Rattle.pack.proofs.Writing.{write_refused, write_passed, data_long}
+use Rattle.pack.proofs.Writing.{left_as_found, write_refused, write_passed, data_long}
 use Rattle.pack.proofs.pack_data.Goals as goal
 
-pub returns-in-Refused : goal.returns-in-Refused
-returns-in-Refused c = record { answer = write_refused _ _ _ (sym c.check_data.ensures ∙ c.in-Refused.is); bytes = refl }
+pub returns-in_err-check_data : goal.returns-in_err-check_data
+returns-in_err-check_data c = record { answer = write_refused _ _ c.in_err-check_data.ensures c.from_residual.ensures.1; bytes = left_as_found _ _ _ _ c.from_residual.ensures.1 }
 
-pub returns-in-Passed : goal.returns-in-Passed
-returns-in-Passed c = let sixteen : length c.args.cid ≡ 16 = search rules in
-    let n = c.args.name.now in
-    let v = c.args.values.now in
-    let both = write_passed _ _ c.args.buf.now _ (data_bytes c.args.cid c.args.fields n v) (sym c.check_data.ensures ∙ c.in-Passed.is) (data_long c.args.cid (sixteen) c.args.fields n v)
-    c.put_data.ensures in
+pub returns : goal.returns
+returns c = let a = c.args in
+    let sixteen : length a.cid ≡ 16 = search rules in
+    let both = write_passed _ _ a.buf.now _ (data_bytes a.cid a.fields a.name.now a.values.now) c.in_ok-check_data.ensures
+    (data_long a.cid (sixteen) a.fields a.name.now a.values.now) c.put_data.ensures in
     record { answer = both.0; bytes = both.1 }

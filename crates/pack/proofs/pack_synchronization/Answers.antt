@@ -1,18 +1,13 @@
-use Prim.Native.Nat.{◌≤◌}
-use mathlib.Core.Path.{◌≡◌, refl, ap, ◌∙◌}
-use native.Mathlib.Omega.{arith}
-use borrow.Author.Rules.{rules}
-use lib.ListN.{length}
+use Rattle.std.proofs.Common.{◌≡◌, ◌≤◌, length, refl, ◌∙◌, arith, rules}
 use Rattle.refusal.proofs.Laws.{stop, pass}
 use Rattle.wire.proofs.Laws.{sets_front}
 use Rattle.pack.specs.Writing.{synchronization_bytes, packed_of}
-use Rattle.pack.specs.declared.Packed.TheVariants.{Refused}
 use Rattle.pack.proofs.Writing.{synchronization_long}
 use Rattle.pack.proofs.pack_synchronization.Goals as goal
 
 pub returns-then-buf-lt-SYNCHRONIZATION_LENGTH : goal.returns-then-buf-lt-SYNCHRONIZATION_LENGTH
 unfolding packed_of
-returns-then-buf-lt-SYNCHRONIZATION_LENGTH c = record { answer = stop 0 _ _ _ (omega arith) (ap Refused c.new.ensures); bytes = refl }
+returns-then-buf-lt-SYNCHRONIZATION_LENGTH c = record { answer = stop 0 _ _ _ (omega arith) c.refuse.ensures; bytes = cc }
 
 pub returns : goal.returns
 unfolding packed_of

@@ -1,7 +1,4 @@
-use Prim.Native.Nat.{◌+◌}
-use mathlib.Core.Path.{◌≡◌, refl}
-use borrow.Author.Rules.{rules}
-use lib.ListN.{length}
+use Rattle.std.proofs.Common.{◌≡◌, ◌+◌, length, refl, rules}
 use Rattle.framing.specs.Bytes.{data_framing_bytes}
 use Rattle.pack.proofs.Writing.{framed_then}
 use Rattle.pack.specs.Writing.{root_head, data_bytes}

@@ -1,8 +1,7 @@
-use Prim.Native.Nat.{ℕ}
-use mathlib.Core.List.{List, [], ◌∷◌, ◌++◌}
-use mathlib.Core.Path.{◌≡◌}
-use lib.Seq.{sets}
+use Rattle.std.proofs.Common.{◌≡◌, ◌∙◌, ℕ, List, [], ◌∷◌, ◌++◌}
+use Rattle.std.proofs.lemmas.List.Edits.{sets}
 use Rattle.wire.specs.Fields.{be16, be32, join}
+use Rattle.wire.proofs.Laws.{be32_bytes}
 use Rattle.pdu.specs.Head.{flags_field}
 use Rattle.pack.specs.Writing.{identifier, root_head}
 use Rattle.pack.proofs.put_root.Goals as goal
@@ -16,4 +15,5 @@ written : (l headed copied : List ℕ) (flags n vector : ℕ) (cid : List ℕ) �
 written l headed copied flags n vector cid p q r = cc
 
 pub returns : goal.returns
-returns c = written c.args.buf.now _ _ _ c.args.length c.args.vector c.args.cid c.flags_and_length-flags.ensures c.copy.ensures c.copy-2.ensures
+returns c = written c.args.buf.now _ _ _ c.args.length c.args.vector c.args.cid c.flags_and_length.ensures
+    (rw (c.to_be_bytes.ensures, c.to_be_bytes-2.ensures, c.to_be_bytes-3.ensures, c.to_be_bytes-4.ensures ∙ be32_bytes c.args.vector) at c.copy.ensures) c.copy-2.ensures

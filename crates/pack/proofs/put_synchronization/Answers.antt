@@ -1,6 +1,4 @@
-use mathlib.Core.Path.{◌≡◌, refl}
-use borrow.Author.Rules.{rules}
-use lib.ListN.{length}
+use Rattle.std.proofs.Common.{◌≡◌, length, refl, rules}
 use Rattle.extended.specs.Bytes.{synchronization_framing_bytes}
 use Rattle.pack.proofs.Writing.{framed_then}
 use Rattle.pack.specs.Writing.{root_head, synchronization_bytes}

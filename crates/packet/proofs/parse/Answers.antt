@@ -6,6 +6,7 @@ use Rattle.refusal.proofs.Laws.{by_answer}
 use Rattle.refusal.specs.declared.Refusal.{Refusal}
 use Rattle.packet.specs.Packet.{packet_of, cid_of, cid_in, with_cid, reading_of}
 use Rattle.packet.specs.declared.DataRecord.{DataRecord}
+use Rattle.framing.specs.declared.DataFields.{DataFields}
 use Rattle.packet.specs.declared.SynchronizationRecord.{SynchronizationRecord}
 use Rattle.packet.specs.declared.DiscoveryRecord.{DiscoveryRecord}
 use Rattle.packet.specs.declared.Packet.{Packet}
@@ -14,7 +15,7 @@ use Rattle.packet.proofs.Laws.{packet_within, cid_known}
 use Rattle.packet.proofs.parse.Goals as goal
 
 -- what is no refusal
-data-read : (x : DataRecord) (r : Refusal) → Refused r ≡ Data x → ⊥
+data-read : (x : DataRecord DataFields) (r : Refusal) → Refused r ≡ Data x → ⊥
 data-read x r q = let z : ◌≡◌ {A = ℕ} 0 1 = cc in omega arith
 
 synchronization-read : (x : SynchronizationRecord) (r : Refusal) → Refused r ≡ Synchronization x → ⊥

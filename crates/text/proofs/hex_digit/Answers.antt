@@ -1,5 +1,4 @@
-use mathlib.Core.Path.{refl}
-use native.Mathlib.Omega.{arith}
+use Rattle.std.proofs.Common.{refl, arith}
 use Rattle.refusal.proofs.Tests.{chosen, passed_over}
 use Rattle.text.proofs.hex_digit.Goals as goal
 

@@ -1,5 +1,4 @@
-use mathlib.Core.Path.{refl}
-use native.Mathlib.Omega.{arith}
+use Rattle.std.proofs.Common.{refl, arith}
 use Rattle.refusal.proofs.Laws.{stop, pass}
 use Rattle.refusal.specs.Check.{checked_of}
 use Rattle.universe.proofs.is_universe_in_range.Goals as goal
@@ -10,11 +9,7 @@ returns-then-universe-eq-E131_DISCOVERY_UNIVERSE c = pass _ _ _ (omega arith) re
 
 pub returns-then-universe-lt-E131_MIN_MULTICAST_UNIVERSE : goal.returns-then-universe-lt-E131_MIN_MULTICAST_UNIVERSE
 unfolding checked_of
-returns-then-universe-lt-E131_MIN_MULTICAST_UNIVERSE c = stop 0 _ _ _ (omega arith) (cc)
-
-pub returns-then-universe-gt-E131_MAX_MULTICAST_UNIVERSE : goal.returns-then-universe-gt-E131_MAX_MULTICAST_UNIVERSE
-unfolding checked_of
-returns-then-universe-gt-E131_MAX_MULTICAST_UNIVERSE c = stop 0 _ _ _ (omega arith) (cc)
+returns-then-universe-lt-E131_MIN_MULTICAST_UNIVERSE c = stop 0 _ _ _ (omega arith) c.refuse.ensures
 
 pub returns : goal.returns
 unfolding checked_of

@@ -1,26 +1,38 @@
-use mathlib.Core.Path.{◌≡◌, refl, sym, ◌∙◌}
-use lib.ListN.{length}
-use Rattle.refusal.specs.Check.{checked_of}
-use Rattle.refusal.specs.declared.Checked.{Checked}
-use Rattle.refusal.specs.declared.Checked.TheVariants as checked
-use Rattle.refusal.proofs.Laws.{after_check, by_answer}
-use Rattle.discovery.specs.Universes.{order_checks}
+use Rattle.std.proofs.Common.{◌≡◌, ◌-◌, ◌*◌, ◌≤◌, length, take, drop, sym, ◌∙◌, arith}
+use Rattle.refusal.proofs.Laws.{stop}
 use Rattle.pack.specs.Writing.{packed_of}
-use Rattle.pack.specs.declared.Packed.{Packed}
-use Rattle.pack.specs.declared.Packed.TheVariants.{Refused}
-use Rattle.universe_pages.specs.Writing.{numbered_checks, page_write_checks, page_length}
-use Rattle.universe_pages.proofs.Writing.{by_order}
+use Rattle.pack.proofs.Writing.{left_as_found}
+use Rattle.universe_pages.specs.Pages.{last_page_of, page_of}
+use Rattle.universe_pages.proofs.Rising.{passed→rising}
+use Rattle.universe_pages.proofs.Pages.{few_pages, page_cut}
+use Rattle.universe_pages.proofs.Writing.{order_refused, order_passed, page_packed}
 use Rattle.universe_pages.proofs.pack_page.Goals as goal
 
-pub pack_ascending-requires : goal.pack_ascending-requires
-pack_ascending-requires c = cc
+pub returns-in_err-check_order : goal.returns-in_err-check_order
+returns-in_err-check_order c = record { answer = order_refused _ _ _ _ _ c.in_err-check_order.ensures c.from_residual.ensures.1; bytes = left_as_found _ _ _ _ c.from_residual.ensures.1 }
 
-pub returns-in-Refused : goal.returns-in-Refused
-returns-in-Refused c = let passed : Packed = packed_of (numbered_checks (length c.args.buf.now) c.args.name.now c.args.universes.now c.args.page) (page_length c.args.universes.now c.args.page) in
-    let told : (y : Checked) (x : Packed) → checked_of (order_checks c.args.universes.now) ≡ y → x ≡ after_check Refused (passed) y → x ≡ packed_of (page_write_checks (length c.args.buf.now) c.args.name.now c.args.universes.now c.args.page) (page_length c.args.universes.now c.args.page) = λ y x e f. by_answer (after_check Refused (passed)) (checked_of (order_checks c.args.universes.now)) y e f ∙ sym (by_order (length c.args.buf.now) c.args.name.now c.args.universes.now c.args.page _) in
-    record { answer = told (checked.Refused _) _ (sym c.check_order.ensures ∙ c.in-Refused.is) refl; bytes = refl }
+pub returns-then-pages-page : goal.returns-then-pages-page
+unfolding packed_of
+returns-then-pages-page c =
+    record { answer = order_passed _ _ _ _ _ c.in_ok-check_order.ensures (stop 0 _ _ _ (omega arith) c.refuse.ensures); bytes = cc }
 
-pub returns-in-Passed : goal.returns-in-Passed
-returns-in-Passed c = let passed : Packed = packed_of (numbered_checks (length c.args.buf.now) c.args.name.now c.args.universes.now c.args.page) (page_length c.args.universes.now c.args.page) in
-    let told : (y : Checked) (x : Packed) → checked_of (order_checks c.args.universes.now) ≡ y → x ≡ after_check Refused (passed) y → x ≡ packed_of (page_write_checks (length c.args.buf.now) c.args.name.now c.args.universes.now c.args.page) (page_length c.args.universes.now c.args.page) = λ y x e f. by_answer (after_check Refused (passed)) (checked_of (order_checks c.args.universes.now)) y e f ∙ sym (by_order (length c.args.buf.now) c.args.name.now c.args.universes.now c.args.page _) in
-    record { answer = told checked.Passed _ (sym c.check_order.ensures ∙ c.in-Passed.is) c.pack_ascending.ensures.answer; bytes = c.pack_ascending.ensures.bytes }
+pub overflow_cast-last_page : goal.overflow_cast-last_page
+overflow_cast-last_page c =
+    let us = c.args.universes.now in
+    let few = few_pages us (λ i h. omega (arith, c.type_inv.universes i)) (passed→rising us (sym c.in_ok-check_order.ensures)) in
+    omega (arith, few, c.page_count-pages.ensures)
+
+pub returns : goal.returns
+returns c =
+    let us = c.args.universes.now in
+    let k = c.args.page in
+    let ascends = passed→rising us (sym c.in_ok-check_order.ensures) in
+    let there : k ≤ last_page_of us = omega arith in
+    let last : c.page_count-pages.result - 1 ≡ last_page_of us = omega (arith, c.page_count-pages.ensures) in
+    let page : take (c.min-end.result - 512 * k) (drop (512 * k) us) ≡ page_of us k =
+    rw c.min-end.ensures (page_cut us (512 * k) (omega arith)) in
+    let done = rw (page, last) at c.pack_discovery.ensures in
+    record {
+      answer = order_passed _ _ _ _ _ c.in_ok-check_order.ensures (done.answer ∙ page_packed (length c.args.buf.now) c.args.name.now us k there ascends);
+      bytes = done.bytes;
+    }

@@ -1,6 +1,4 @@
-use native.Mathlib.Omega.{arith}
-use borrow.Author.Rules.{rules}
-use lib.ListN.{length-append}
+use Rattle.std.proofs.Common.{length-append, rules, arith}
 use Rattle.text.proofs.Decimals.{digits}
 use Rattle.text.proofs.Puts.{put_then, put_last}
 use Rattle.why.specs.Why.{entry_line}
@@ -8,4 +6,7 @@ use Rattle.why.proofs.put_entry.Goals as goal
 
 pub returns : goal.returns
 unfolding entry_line
-returns c = record { put = put_then c.put_decimal-next.ensures (put_then c.put_reader-next.ensures.put (put_then c.put_reader-next-2.ensures.put (put_last c.put.ensures))); datagram_len_bound = simp length-append (omega (arith, digits c.args.n (search rules), c.put_reader-next.ensures.datagram_in_bounds, c.put_reader-next-2.ensures.datagram_in_bounds)) }
+returns c = record {
+  put = put_then c.put_decimal.ensures (put_then c.put_reader.ensures.put (put_then c.put_reader-2.ensures.put (put_last c.put.ensures)));
+  datagram_len_bound = simp length-append (omega (arith, digits c.args.n (search rules), c.put_reader.ensures.datagram_in_bounds, c.put_reader-2.ensures.datagram_in_bounds));
+}

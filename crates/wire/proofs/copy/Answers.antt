@@ -1,8 +1,5 @@
-use Prim.Native.Nat.{◌-◌}
-use mathlib.Core.Path.{sym, ◌∙◌}
-use native.Mathlib.Omega.{arith}
-use lib.ListN.{take}
-use Rattle.wire.proofs.Laws.{sets_past, sets_take, lent_rest}
+use Rattle.std.proofs.Common.{sym, arith}
+use Rattle.wire.proofs.Laws.{sets_past, copied_part}
 use Rattle.wire.proofs.copy.Goals as goal
 
 pub returns-then-buf-at : goal.returns-then-buf-at
@@ -10,7 +7,4 @@ returns-then-buf-at c = sym (sets_past c.args.src.now _ _ (omega arith))
 
 pub returns : goal.returns
 returns c = let a = c.args in
-    let b = a.buf.now in
-    let n = c.least-n.result in
-    lent_rest (take (n - 0) a.src.now) b a.at c.copy_run.ensures
-    ∙ sets_take a.src.now b a.at (n - 0) (omega arith)
+    copied_part a.src.now a.buf.now a.at _ c.least-n.result c.copy_from_slice.ensures.after (omega arith) (omega arith) c.least-n.ensures

@@ -1,8 +1,5 @@
-use Prim.Native.Nat.{ℕ, ◌+◌}
-use mathlib.Core.List.{List}
-use mathlib.Core.Path.{sym, ap, ◌∙◌}
-use native.Mathlib.Omega.{arith}
-use lib.Seq.{sets}
+use Rattle.std.proofs.Common.{ℕ, ◌+◌, List, sym, ap, ◌∙◌, arith}
+use Rattle.std.proofs.lemmas.List.Edits.{sets}
 use Rattle.wire.proofs.Laws.{sets_past, sets_append}
 use Rattle.pdu.specs.Head.{layer_head}
 use Rattle.extended.specs.Bytes.{sync_field_bytes, synchronization_framing_bytes}
@@ -16,6 +13,6 @@ pub returns : goal.returns
 unfolding synchronization_framing_bytes
 returns c = let a = c.args in
     let f = sync_field_bytes a.fields in
-    c.copy.ensures
+    (rw c.to_be_bytes.ensures at c.copy.ensures)
     ∙ ap (λ (b : List ℕ). sets b (a.at + 6) f) c.put_head.ensures
     ∙ sym (sets_append (layer_head 11 1) f a.buf.now a.at)

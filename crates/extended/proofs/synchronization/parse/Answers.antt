@@ -1,15 +1,15 @@
-use Prim.Native.Nat.{ℕ}
+use Rattle.std.specs.Prelude.{ℕ, Result, Ok}
 use mathlib.Core.Path.{ap₂}
 use native.Mathlib.Omega.{arith}
 use Rattle.refusal.proofs.Laws.{stop, stop_value, pass}
 use Rattle.extended.specs.Synchronization.{synchronization_of}
-use Rattle.extended.specs.declared.synchronization.Synchronization.{Synchronization}
-use Rattle.extended.specs.declared.synchronization.Synchronization.TheVariants.{Layer}
+use Rattle.refusal.specs.declared.Refusal.{Refusal}
+use Rattle.extended.specs.declared.synchronization.SynchronizationFields.{SynchronizationFields}
 use Rattle.extended.proofs.synchronization.parse.Goals as goal
 
 -- a layer by its two fields
-abbrev layer : ℕ → ℕ → Synchronization
-layer sequence address = Layer (record { sequence_number = sequence; synchronization_address = address })
+abbrev layer : ℕ → ℕ → Result SynchronizationFields Refusal
+layer sequence address = Ok (record { sequence_number = sequence; synchronization_address = address })
 
 pub returns-then-p-length : goal.returns-then-p-length
 unfolding synchronization_of

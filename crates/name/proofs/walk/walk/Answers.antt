@@ -1,7 +1,5 @@
-use Prim.Native.Nat.{◌+◌, ◌-◌, ◌/◌, ◌%◌, ◌<◌}
-use mathlib.Core.Path.{◌≡◌}
-use native.Mathlib.Omega.{arith}
-use lib.ListN.{take, drop, get_or-eq_default}
+use Rattle.std.proofs.Common.{◌+◌, ◌-◌, ◌/◌, ◌%◌, ◌<◌, ◌≡◌, arith, length, take, drop}
+use Rattle.std.proofs.Math.ListN.{get_or-eq_default}
 use Rattle.wire.specs.Bytes.{Bytes}
 use Rattle.wire.specs.Fields.{byte_at}
 use Rattle.name.specs.Words.{word_of}
@@ -71,6 +69,22 @@ loop-at-preserved c = let bytes : Bytes c.args.s.now = λ i. (c.type_inv.s i).fi
     let e : c.if-skips.end ≡ c.loop-at.at + 8 = omega (arith, judged.few) in
     rw e at judged.stands
 
+pub returns-else-end-at : goal.returns-else-end-at
+returns-else-end-at c = let bytes : Bytes c.args.s.now = λ i. (c.type_inv.s i).fits in
+    let judged : Judged c.args.s.now c.if-skips.expect c.if-skips.whole c.loop-at.at c.if-skips.end =
+    elim c.if-skips.branch [
+      | then-skips w ↦ let k = c.skips.ensures w.if-skips.true in
+          rw (w.expect-is, w.whole-is, w.end-is)
+          (judged_ascii c.args.s.now c.loop-at.expect c.loop-at.whole c.loop-at.at c.word_at-word.result w.zero_in-end.result
+          bytes c.loop-at.invariant k.0 c.word_at-word.ensures k.1 w.zero_in-end.ensures)
+      | else-skips+else-loop-word-test w ↦ let l = w.loop-word in
+          rw (w.expect-is, w.whole-is, w.end-is)
+          (judged_stepped c.args.s.now l.expect l.whole c.loop-at.at l.end l.word bytes l.invariant.0 l.invariant.1 l.invariant.2 (omega arith))
+    ] in
+    let e : c.if-skips.end ≡ length c.args.s.now = omega (arith, judged.stands.inside, judged.few) in
+    rw (← e) (stands_over c.args.s.now c.if-skips.expect c.if-skips.whole c.if-skips.end judged.stands (get_or-eq_default c.args.s.now 0 (omega arith)))
+
 pub returns : goal.returns
 returns c = let s = c.args.s.now in
-    stands_over s c.loop-at.expect c.loop-at.whole c.loop-at.at c.loop-at.invariant (get_or-eq_default s 0 (omega arith))
+    let e : c.loop-at.at ≡ length s = omega (arith, c.loop-at.invariant.inside) in
+    rw (← e) (stands_over s c.loop-at.expect c.loop-at.whole c.loop-at.at c.loop-at.invariant (get_or-eq_default s 0 (omega arith)))

@@ -1,6 +1,4 @@
-use Prim.Native.Nat.{◌+◌, ◌-◌, ◌≤◌}
-use mathlib.Core.Path.{◌≡◌}
-use lib.ListN.{length, take, drop}
+use Rattle.std.proofs.Common.{◌+◌, ◌-◌, ◌≤◌, ◌≡◌, take, drop}
 use Rattle.name.specs.Words.{word_of}
 use Rattle.name.proofs.Pass.{Stands}
 use Rattle.name.proofs.walk.walk.Given as goal
@@ -14,6 +12,3 @@ decreases-loop-word l = l.word
 
 abbrev pub invariant-loop-at : goal.invariant-loop-at
 invariant-loop-at l = Stands l.s l.expect l.whole l.at
-
-abbrev pub decreases-loop-at : goal.decreases-loop-at
-decreases-loop-at l = length l.s - l.at

@@ -1,4 +1,4 @@
-use mathlib.Core.Path.{refl}
+use Rattle.std.proofs.Common.{refl}
 use Rattle.page_collector.specs.Collect.{no_counts}
 use Rattle.page_collector.proofs.Collector.new.Goals as goal
 

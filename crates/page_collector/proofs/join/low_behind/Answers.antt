@@ -1,18 +1,9 @@
-use Prim.Native.Nat.{◌-◌}
-use mathlib.Core.Path.{sym}
-use native.Mathlib.Omega.{arith}
-use lib.ListN.{length}
+use Rattle.std.proofs.Common.{ℕ, ◌+◌, sym, ap, ◌∙◌, arith}
 use Rattle.universe_pages.proofs.Rising.{behind_none, behind_last}
 use Rattle.page_collector.proofs.join.low_behind.Goals as goal
 
-pub returns-then-page-eq0 : goal.returns-then-page-eq0
-returns-then-page-eq0 c = sym (behind_none c.args.low c.args.page.now (omega arith))
+pub returns-in-None : goal.returns-in-None
+returns-in-None c = sym (behind_none c.args.low c.args.page.now (omega (arith, c.in-None.ensures.item)))
 
-pub overflow_cast-result : goal.overflow_cast-result
-overflow_cast-result c = omega (arith, c.type_inv.page (length c.args.page.now - 1))
-
-pub overflow_add-result : goal.overflow_add-result
-overflow_add-result c = omega (arith, c.type_inv.page (length c.args.page.now - 1))
-
-pub returns : goal.returns
-returns c = sym (behind_last c.args.low c.args.page.now (omega arith))
+pub returns-in-Some : goal.returns-in-Some
+returns-in-Some c = ap (λ (n : ℕ). n + 1) (c.in-Some.ensures.item.3.1 0) ∙ sym (behind_last c.args.low c.args.page.now c.in-Some.ensures.item.3.0)

@@ -1,24 +1,13 @@
-use mathlib.Core.Path.{sym, ◌∙◌}
-use mathlib.Core.Bool.{true, false}
-use native.Mathlib.Omega.{arith}
+use Rattle.std.proofs.Common.{◌≡◌, ℕ, ◌≤◌, true, false, List, get_or, is_ok, Ok, Err, sym, ◌∙◌, arith}
+use Rattle.refusal.specs.Check.{Checked, outcome, checked_of}
 use Rattle.refusal.proofs.Tests.{decided}
-use Rattle.universe_pages.proofs.Rising.{rising_from, from_none, from_first, first_below, passed→rising, refused→falls}
+use Rattle.discovery.specs.Universes.{order_checks}
+use Rattle.universe_pages.proofs.Rising.{rising_from, from_first, passed→rising, refused→falls}
 use Rattle.page_collector.proofs.join.page_ascends.Goals as goal
 
-pub returns-then-page-eq0 : goal.returns-then-page-eq0
-returns-then-page-eq0 c = sym (decided (rising_from c.args.low c.args.page.now) true (from_none c.args.low c.args.page.now (omega arith)))
+by_order : (low : ℕ) (us : List ℕ) (o : Checked) → low ≤ get_or us 0 0 → o ≡ checked_of (order_checks us) → is_ok o ≡ outcome (rising_from low us)
+by_order low us (Ok tt) h e = sym (decided (rising_from low us) true (from_first low us h (passed→rising us (sym e))))
+by_order low us (Err r) h e = sym (decided (rising_from low us) false (refused→falls low us r (sym e)))
 
-pub overflow_cast-page : goal.overflow_cast-page
-overflow_cast-page c = omega (arith, c.type_inv.page 0)
-
-pub returns-then-page-low : goal.returns-then-page-low
-returns-then-page-low c = sym (decided (rising_from c.args.low c.args.page.now) false (first_below c.args.low c.args.page.now (omega arith) (omega arith)))
-
-pub returns-in-Passed : goal.returns-in-Passed
-returns-in-Passed c = let us = c.args.page.now in
-    let passed = sym c.check_order.ensures ∙ c.in-Passed.is in
-    sym (decided (rising_from c.args.low us) true (from_first c.args.low us (omega (arith, c.if-page-low)) (passed→rising us passed)))
-
-pub returns-in-Refused : goal.returns-in-Refused
-returns-in-Refused c = let us = c.args.page.now in
-    sym (decided (rising_from c.args.low us) false (refused→falls c.args.low us _ (sym c.check_order.ensures ∙ c.in-Refused.is)))
+pub returns-then-low-first : goal.returns-then-low-first
+returns-then-low-first c = c.is_ok.ensures.value ∙ by_order c.args.low c.args.page.now _ (omega (arith, c.if-low-first.true, c.in-Some.ensures.item.3.1 0)) c.check_order.ensures

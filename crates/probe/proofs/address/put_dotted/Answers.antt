@@ -5,5 +5,5 @@ use Rattle.probe.proofs.address.put_dotted.Goals as goal
 pub returns : goal.returns
 unfolding dotted
 returns c =
-    put_then c.put_field-next.ensures
-    (put_then c.put_field-next-2.ensures (put_then c.put_field-next-3.ensures (put_last c.put_field.ensures)))
+    put_then c.put_field.ensures
+    (put_then c.put_field-2.ensures (put_then c.put_field-3.ensures (put_last c.put_field-4.ensures)))

@@ -5,5 +5,5 @@ use Rattle.probe.proofs.address.put_found.Goals as goal
 pub returns : goal.returns
 unfolding address_line
 returns c =
-    put_then c.put_decimal-next.ensures
-    (put_then c.put_dotted-next.ensures (put_then c.put_field-next.ensures (put_last c.put.ensures)))
+    put_then c.put_decimal.ensures
+    (put_then c.put_dotted.ensures (put_then c.put_field.ensures (put_last c.put.ensures)))

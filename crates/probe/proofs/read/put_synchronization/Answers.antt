@@ -1,4 +1,4 @@
-use mathlib.Core.List.{append_assoc}
+use Rattle.std.proofs.Common.{append_assoc}
 use Rattle.text.proofs.Puts.{put_then, put_last, put_as}
 use Rattle.probe.specs.Answers.{synchronization_answer}
 use Rattle.probe.proofs.read.put_synchronization.Goals as goal
@@ -7,5 +7,5 @@ pub returns : goal.returns
 unfolding synchronization_answer
 returns c =
     put_as
-    (put_then c.put_named-next.ensures (put_then c.put_synchronization_fields-next.ensures (put_last c.put.ensures)))
+    (put_then c.put_named.ensures (put_then c.put_synchronization_fields.ensures (put_last c.put.ensures)))
     (simp append_assoc)

@@ -1,32 +1,21 @@
-use Prim.Native.Nat.{◌≤◌, ◌*◌}
-use mathlib.Core.Path.{◌≡◌, refl, ◌∙◌}
-use native.Mathlib.Omega.{arith}
-use native.Mathlib.Nat.{zero-add}
-use lib.ListN.{length}
-use lib.Seq.{take_all}
+use Rattle.std.proofs.Common.{◌≤◌, ◌*◌, ◌∙◌, refl, length, take, length-take, take_all, zero-add, arith}
+use Rattle.wire.proofs.Laws.{take_least}
 use Rattle.discovery.specs.Universes.{universe_bytes}
 use Rattle.discovery.proofs.Laws.{bytes_more}
 use Rattle.probe.proofs.read.spell_numbers.Goals as goal
 
 pub loop-i-init : goal.loop-i-init
 unfolding universe_bytes
-loop-i-init c = (omega arith, omega arith, refl, refl)
-
-pub returns-then-count-i : goal.returns-then-count-i
-returns-then-count-i c = let k : c.loop-i.i ≡ c.args.count = omega arith in
-    record { value = omega arith; bytes_after = rw (← k) c.loop-i.invariant.3 }
+loop-i-init c = refl
 
 pub loop-i-preserved : goal.loop-i-preserved
-loop-i-preserved c = (
-  omega arith,
-  omega arith,
-  omega arith,
-  c.put_u16.ensures ∙ rw (c.loop-i.invariant.3, bytes_more c.args.numbers.now c.args.bytes.now 0 c.loop-i.i (omega arith), zero-add (2 * c.loop-i.i)),
-)
+loop-i-preserved c = let spelled = take c.least.result c.args.numbers.now in
+    c.put_u16.ensures ∙ rw (c.loop-i.invariant, bytes_more spelled c.args.bytes.now 0 c.loop-i.i (omega arith), zero-add (2 * c.loop-i.i))
 
 pub returns : goal.returns
-returns c = let i = c.loop-i.i in
-    let s = c.args.numbers.now in
-    let h : length s ≤ i = omega arith in
-    let k : length s ≤ c.args.count = omega arith in
-    record { value = omega arith; bytes_after = c.loop-i.invariant.3 ∙ rw (take_all i s h, take_all c.args.count s k) }
+returns c = let s = c.args.numbers.now in
+    let h : length (take c.least.result s) ≤ c.loop-i.i = omega arith in
+    record {
+      value = omega (arith, length-take c.least.result s);
+      bytes_after = c.loop-i.invariant ∙ rw (take_all c.loop-i.i (take c.least.result s) h, c.least.ensures, take_least s c.args.count);
+    }

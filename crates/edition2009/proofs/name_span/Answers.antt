@@ -1,4 +1,0 @@
-use Rattle.edition2009.proofs.name_span.Goals as goal
-
-pub returns-in-Refused : goal.returns-in-Refused
-returns-in-Refused c = rw c.in-Refused.is

@@ -1,4 +1,0 @@
-use Rattle.follow_rules.proofs.stay.Goals as goal
-
-pub returns : goal.returns
-returns c = rw c.free.ensures

@@ -1,4 +1,0 @@
-use Rattle.ledgerwren.proofs.ledgerwren1_copy_universes.Goals as goal
-
-pub returns : goal.returns
-returns c = record { answer = cc; filled = cc }

@@ -1,5 +1,0 @@
-use Rattle.text.proofs.Puts.{put_then}
-use Rattle.text.proofs.put_field.Goals as goal
-
-pub returns : goal.returns
-returns c = put_then c.put-next.ensures c.put_decimal.ensures
