@@ -79,8 +79,8 @@ impl Teller for Follower {
     }
 }
 
-// The whole program: entries are followed in a table that is cleared. The buffers hold an entry with its length, and a
-// line.
+// The whole program: entries are followed in a table that is cleared. `followed` is of buffers that hold an entry with its
+// length, and a line.
 fn run(rt: &(impl Input + Print + Eprint), block: &mut [u8], out: &mut Text) -> State
     ensures { Ran (following (cleared 1024)) block.old out.old block.new out.new result }
 {

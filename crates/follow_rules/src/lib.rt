@@ -2,9 +2,9 @@
 // of sources has of its source.
 #![tactic(auto)]
 
-ghost use Rattle.std.specs.Prelude.{◌≡◌};
+ghost use Rattle.std.specs.Prelude.{◌≡◌, IfSome, IfNone};
 ghost use Rattle.refusal.specs.Check.{outcome};
-ghost use Rattle.refusal.proofs.Tests.{Fails};
+ghost use Rattle.refusal.proofs.Tests.{Holds, Fails};
 ghost use Rattle.follow_rules.specs.Totals.{zero_totals, full, accept_of, discard_of, refuse_of};
 ghost use Rattle.follow_rules.specs.Table.{free_entry, ours};
 ghost use Rattle.follow_rules.specs.Walk.{ours_of, seeks_of, look_of};
@@ -69,6 +69,13 @@ pub struct Totals {
     pub room_refused: u64,
 }
 
+// Totals with room: each may grow by one.
+#[derive(Clone, Copy)]
+struct Open {
+    totals: Totals,
+    ghost room: { Fails (full totals) },
+}
+
 // What a datagram gives back: the answer, and the next totals.
 #[derive(Clone, Copy)]
 pub struct Followed {
@@ -128,33 +135,43 @@ impl Totals {
         self.accepted == u64::MAX || self.discarded == u64::MAX || self.room_refused == u64::MAX
     }
 
+    // The totals as those with room, where no total is at its largest number.
+    fn with_room(self) -> Option<Open>
+        ensures totals { IfSome result (λ o. o.totals ≡ self) }
+        ensures none { IfNone result (Holds (full self)) }
+    {
+        if self.full() {
+            return None;
+        }
+        Some(Open { totals: self })
+    }
+}
+
+impl Open {
     fn accept(self) -> Totals
-        requires { Fails (full self) }
-        ensures { result ≡ accept_of self }
+        ensures { result ≡ accept_of self.totals }
     {
         Totals {
-            accepted: self.accepted + 1,
-            ..self
+            accepted: self.totals.accepted + 1,
+            ..self.totals
         }
     }
 
     fn discard(self) -> Totals
-        requires { Fails (full self) }
-        ensures { result ≡ discard_of self }
+        ensures { result ≡ discard_of self.totals }
     {
         Totals {
-            discarded: self.discarded + 1,
-            ..self
+            discarded: self.totals.discarded + 1,
+            ..self.totals
         }
     }
 
     fn refuse(self) -> Totals
-        requires { Fails (full self) }
-        ensures { result ≡ refuse_of self }
+        ensures { result ≡ refuse_of self.totals }
     {
         Totals {
-            room_refused: self.room_refused + 1,
-            ..self
+            room_refused: self.totals.room_refused + 1,
+            ..self.totals
         }
     }
 }
@@ -225,9 +242,8 @@ fn stay(totals: Totals, answer: Answer) -> Decision
 }
 
 // A packet is accepted, and what it leaves is stored.
-fn accept_at(at: usize, totals: Totals, cid: [u8; 16], sent: Sent) -> Decision
-    requires { Fails (full totals) }
-    ensures { result ≡ accepted_at at totals cid sent }
+fn accept_at(at: usize, before: Open, cid: [u8; 16], sent: Sent) -> Decision
+    ensures { result ≡ accepted_at at before.totals cid sent }
 {
     Decision {
         stored: Some(Stored {
@@ -236,23 +252,22 @@ fn accept_at(at: usize, totals: Totals, cid: [u8; 16], sent: Sent) -> Decision
         }),
         followed: Followed {
             answer: Answer::Accepted,
-            totals: totals.accept(),
+            totals: before.accept(),
         },
     }
 }
 
 // A data packet that is counted, by what the table has of its source.
-fn count(totals: Totals, cid: [u8; 16], sent: Sent, spot: Spot) -> Decision
-    requires { Fails (full totals) }
-    ensures { result ≡ counted_of totals cid sent spot }
+fn count(before: Open, cid: [u8; 16], sent: Sent, spot: Spot) -> Decision
+    ensures { result ≡ counted_of before.totals cid sent spot }
 {
     match spot {
         Spot::Ours { last, .. } if sequence::late(sent.sequence_number, last) => {
-            stay(totals.discard(), Answer::Discarded)
+            stay(before.discard(), Answer::Discarded)
         }
-        Spot::Ours { at, .. } | Spot::Free { at } => accept_at(at, totals, cid, sent),
+        Spot::Ours { at, .. } | Spot::Free { at } => accept_at(at, before, cid, sent),
         Spot::Neither => stay(
-            totals.refuse(),
+            before.refuse(),
             Answer::Refused(Refusal::new(NO_FREE_ENTRY, NOWHERE, 0)),
         ),
     }
@@ -262,13 +277,13 @@ fn count(totals: Totals, cid: [u8; 16], sent: Sent, spot: Spot) -> Decision
 fn decide_data(totals: Totals, cid: [u8; 16], sent: Sent, spot: Spot) -> Decision
     ensures { result ≡ data_of totals cid sent spot }
 {
-    if totals.full() {
+    let Some(before) = totals.with_room() else {
         return stay(
             totals,
             Answer::Refused(Refusal::new(TOTAL_AT_LARGEST, NOWHERE, 0)),
         );
-    }
-    count(totals, cid, sent, spot)
+    };
+    count(before, cid, sent, spot)
 }
 
 // What becomes of a datagram, and what it moves.

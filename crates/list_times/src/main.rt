@@ -93,31 +93,6 @@ fn write_rounds(rounds: usize, packets: &mut [u8], universes: &[u16]) -> u64 {
     mix_bytes(sum, packets)
 }
 
-fn feed(
-    collector: &mut Collector,
-    packets: &[u8],
-    page: usize,
-    memory: &mut [u16],
-    list: &mut [u16],
-) -> Answer {
-    let at = ROOM * (page % PAGES);
-    collector.collect(wire::part(packets, at, ROOM), memory, list)
-}
-
-// All pages, to a fresh collector: the last completes the list.
-fn feed_all(
-    collector: &mut Collector,
-    packets: &[u8],
-    memory: &mut [u16],
-    list: &mut [u16],
-) -> Answer {
-    *collector = Collector::new(CID);
-    for page in 0..LAST_PAGE {
-        let _ = feed(collector, packets, page, memory, list);
-    }
-    feed(collector, packets, LAST_PAGE, memory, list)
-}
-
 fn spoil(list: &mut [u16], round: usize) {
     let at = round % UNIVERSES;
     if at < list.len() {
@@ -145,32 +120,43 @@ fn mix_joined(sum: u64, answer: Answer, list: &[u16], round: usize) -> u64 {
     )
 }
 
-fn collect_rounds(rounds: usize, packets: &[u8], memory: &mut [u16], list: &mut [u16]) -> u64 {
-    let mut collector = Collector::new(CID);
-    let mut sum = 0;
-    for round in 0..rounds {
-        spoil(list, round);
-        let answer = feed_all(&mut collector, packets, memory, list);
-        sum = mix_joined(sum, answer, list, round);
-    }
-    mix_list(sum, list)
+// A collector, the packets of all pages, and what the collector is lent.
+#[derive(Drop)]
+struct Bench<'a> {
+    collector: Collector,
+    packets: &'a [u8],
+    memory: &'a mut [u16],
+    list: &'a mut [u16],
 }
 
-// The last page again and again, to a collector that has all.
-fn join_rounds(
-    rounds: usize,
-    collector: &mut Collector,
-    packets: &[u8],
-    memory: &mut [u16],
-    list: &mut [u16],
-) -> u64 {
-    let mut sum = 0;
-    for round in 0..rounds {
-        spoil(list, round);
-        let answer = feed(collector, packets, LAST_PAGE, memory, list);
-        sum = mix_joined(sum, answer, list, round);
+impl<'a> Bench<'a> {
+    fn feed(&mut self, page: usize) -> Answer {
+        let at = ROOM * (page % PAGES);
+        let packet = wire::part(self.packets, at, ROOM);
+        self.collector.collect(packet, self.memory, self.list)
     }
-    mix_list(sum, list)
+
+    // All pages, to a fresh collector: the last completes the list.
+    fn feed_all(&mut self) -> Answer {
+        self.collector = Collector::new(CID);
+        for page in 0..LAST_PAGE {
+            let _ = self.feed(page);
+        }
+        self.feed(LAST_PAGE)
+    }
+
+    // A round spoils a universe of the list, and then feeds what writes over it.
+    fn rounds<F: Fn(&mut Bench<'a>) -> Answer>(&mut self, rounds: usize, feed: F) -> u64
+        requires { F.IsAlwaysCallable feed }
+    {
+        let mut sum = 0;
+        for round in 0..rounds {
+            spoil(self.list, round);
+            let answer = feed(self);
+            sum = mix_joined(sum, answer, self.list, round);
+        }
+        mix_list(sum, self.list)
+    }
 }
 
 fn digit(byte: u8) -> u8 {
@@ -183,19 +169,32 @@ fn number(digits: &[u8]) -> usize {
         .fold(0, |n, b| n % 10_000_000 * 10 + digit(*b) as usize)
 }
 
-fn run(letter: u8, rounds: usize, packets: &mut [u8], universes: &[u16]) -> u64 {
-    if letter == b'w' {
-        return write_rounds(rounds, packets, universes);
-    }
+// Writes all pages, and works with them at a bench with room for the list.
+fn at_bench<F: FnOnce(&mut Bench) -> u64>(packets: &mut [u8], universes: &[u16], work: F) -> u64
+    requires { F.IsAlwaysCallable work }
+{
     write_pages(0, packets, CID, universes);
-    let mut memory = [0; UNIVERSES];
-    let mut list = [0; UNIVERSES];
-    if letter == b'c' {
-        return collect_rounds(rounds, packets, &mut memory, &mut list);
+    let mut bench = Bench {
+        collector: Collector::new(CID),
+        packets,
+        memory: &mut [0; UNIVERSES],
+        list: &mut [0; UNIVERSES],
+    };
+    work(&mut bench)
+}
+
+// Any other letter is taken for j.
+fn run(letter: u8, rounds: usize, packets: &mut [u8], universes: &[u16]) -> u64 {
+    match letter {
+        b'w' => write_rounds(rounds, packets, universes),
+        b'c' => at_bench(packets, universes, |bench| {
+            bench.rounds(rounds, |b| b.feed_all())
+        }),
+        _ => at_bench(packets, universes, |bench| {
+            let _ = bench.feed_all();
+            bench.rounds(rounds, |b| b.feed(LAST_PAGE))
+        }),
     }
-    let mut collector = Collector::new(CID);
-    let _ = feed_all(&mut collector, packets, &mut memory, &mut list);
-    join_rounds(rounds, &mut collector, packets, &mut memory, &mut list)
 }
 
 // Fills the buffer from standard input, as far as the input goes. Each read but the last brings a byte or more.

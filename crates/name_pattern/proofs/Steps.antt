@@ -6,8 +6,6 @@ use mathlib.Core.List.{List, [], ◌∷◌}
 use native.Mathlib.Omega.{arith}
 use lib.ListN.{length, take, drop, get_or, length-drop}
 use lib.Seq.{take_all, drop-drop}
-use lib.Dec.{leb}
-use borrow.Author.Tests.{leb-true, leb-false}
 use Rattle.refusal.proofs.Tests.{Holds, Fails, clash, chosen, passed_over, choice}
 use Rattle.name_pattern.specs.Characters.{goes_on}
 use Rattle.name_pattern.specs.Walk.{star_byte, question_byte, plain, Tells, Inside, beyond, Fits, ends, skip, eat, one, byte, Says, verdict_of}
@@ -25,15 +23,7 @@ None s = length s ≡ 0
 abbrev Some : List ℕ → Type 0
 Some s = length s ≡ 0 → ⊥
 
-pub tail_length : (s : List ℕ) → length (drop 1 s) ≡ length s - 1
-tail_length [] = refl
-tail_length (b ∷ s) = omega arith
-
 -- what `&s[1..]` lends
-pub tail_none : (s : List ℕ) → None s → s ≡ drop 1 s
-tail_none [] h = refl
-tail_none (b ∷ s) h = absurd (omega arith)
-
 pub tail_part : (s : List ℕ) → take (length s - 1) (drop 1 s) ≡ drop 1 s
 tail_part [] = refl
 tail_part (b ∷ s) = take_all (suc (length s) - 1) s (omega arith)
@@ -186,6 +176,12 @@ byte_says o (c ∷ p) (b ∷ n) h k l e t = took_byte o c b p n l e t
 pub star_here : (p n : List ℕ) → Fits p n → Fits (star_byte ∷ p) n
 star_here p n t = skip refl t
 
+-- the pattern takes the name from here in one outcome alone
+pub not_taken : (o : Outcome) (p n : List ℕ) → (o ≡ Taken → ⊥) → Says o p n → Fits p n → ⊥
+not_taken Taken p n h s f = h refl
+not_taken NotHere p n h s f = s f
+not_taken Nowhere p n h s f = s (star_here p n f)
+
 -- what `&name[from..]` lends
 pub part_from : (from : ℕ) (n : List ℕ) → take (length n - from) (drop from n) ≡ drop from n
 part_from from n = take_all (length n - from) (drop from n) (omega (arith, length-drop from n))
@@ -234,12 +230,3 @@ inside_some (b ∷ n) i = omega arith
 pub outside_none : (n : List ℕ) → None n → Inside n → ⊥
 outside_none [] h i = i
 outside_none (b ∷ n) h i = omega arith
-
-pub outside_below : (n : List ℕ) → get_or n 0 0 < 0x80 → Inside n → ⊥
-outside_below [] h i = i
-outside_below (b ∷ n) h i = omega arith
-
-pub inside_told : (n : List ℕ) (r : Bool) → Some n → 0x80 ≤ get_or n 0 0 → leb (get_or n 0 0) 0xbf ≡ r → Tells r (Inside n)
-inside_told [] r h k e = absurd (h refl)
-inside_told (b ∷ n) true h k e = (k, leb-true b 0xbf e)
-inside_told (b ∷ n) false h k e = λ i. omega (arith, leb-false b 0xbf e)

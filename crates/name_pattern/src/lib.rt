@@ -2,7 +2,7 @@
 // other character itself, and all of the name is taken.
 #![tactic(auto)]
 
-ghost use Rattle.std.specs.Prelude.{◌≡◌, [], ◌∷◌, drop};
+ghost use Rattle.std.specs.Prelude.{◌≡◌, [], ◌∷◌};
 ghost use Rattle.refusal.specs.Check.{checked_of};
 ghost use Rattle.name_pattern.specs.Pattern.{pattern_checks, picks_of};
 ghost use Rattle.name_pattern.specs.Walk.{star_byte, Tells, Inside, beyond, Fits, Says, verdict_of};
@@ -34,39 +34,21 @@ enum Outcome {
     Nowhere,
 }
 
-// All but the first byte.
-fn tail(s: &[u8]) -> &[u8]
-    ensures { result.now ≡ drop 1 s.now }
-{
-    if s.len() == 0 {
-        return s;
-    }
-    &s[1..]
-}
-
 // Whether the name begins inside a character.
 fn inside(name: &[u8]) -> bool
     ensures { Tells result (Inside name.now) }
 {
-    if name.len() == 0 {
-        return false;
-    }
-    let b = name[0];
-    if b < FIRST_CONTINUATION {
-        return false;
-    }
-    b <= LAST_CONTINUATION
+    name.first()
+        .is_some_and(|b| FIRST_CONTINUATION <= *b && *b <= LAST_CONTINUATION)
 }
 
 // A pattern that is used up has taken the name where nothing of it is left.
 fn used_up(name: &[u8]) -> Outcome
     ensures { Says result [] name.now }
 {
-    let left = name.len();
-    if left == 0 {
-        Outcome::Taken
-    } else {
-        Outcome::NotHere
+    match name {
+        [] => Outcome::Taken,
+        _ => Outcome::NotHere,
     }
 }
 
@@ -102,26 +84,25 @@ fn star(pattern: &[u8], name: &[u8]) -> bool
 fn literal(pattern: &[u8], name: &[u8]) -> Outcome
     ensures { Says result pattern.now name.now }
 {
-    if pattern.len() == 0 {
+    let [c, behind @ ..] = pattern else {
         return used_up(name);
+    };
+    if *c == STAR {
+        return verdict(star(behind, name));
     }
-    let c = pattern[0];
-    if c == STAR {
-        return verdict(star(tail(pattern), name));
-    }
-    if name.len() == 0 {
+    let [b, left @ ..] = name else {
         return Outcome::Nowhere;
-    }
-    if c == QUESTION {
+    };
+    if *c == QUESTION {
         if inside(name) {
             return Outcome::NotHere;
         }
-        return rest(tail(pattern), tail(name));
+        return rest(behind, left);
     }
-    if c != name[0] {
+    if c != b {
         return Outcome::NotHere;
     }
-    literal(tail(pattern), tail(name))
+    literal(behind, left)
 }
 
 // The same behind the character that the name begins inside of, if it does.
@@ -130,7 +111,7 @@ fn rest(pattern: &[u8], name: &[u8]) -> Outcome
     ensures { Says result pattern.now (beyond name.now) }
 {
     if inside(name) {
-        return rest(pattern, tail(name));
+        return rest(pattern, &name[1..]);
     }
     literal(pattern, name)
 }
@@ -153,19 +134,8 @@ pub fn check_pattern(pattern: &[u8]) -> Result<(), Refusal>
 pub fn picks(pattern: &[u8], name: &[u8]) -> bool
     ensures { result ≡ picks_of pattern.now name.now }
 {
-    if LONGEST_PATTERN < pattern.len() {
+    if check_pattern(pattern).is_err() || whole_characters(name) != name.len() {
         return false;
     }
-    if whole_characters(pattern) != pattern.len() {
-        return false;
-    }
-    if whole_characters(name) != name.len() {
-        return false;
-    }
-    let outcome = literal(pattern, name);
-    match outcome {
-        Outcome::Taken => true,
-        Outcome::NotHere => false,
-        Outcome::Nowhere => false,
-    }
+    matches!(literal(pattern, name), Outcome::Taken)
 }

@@ -9,19 +9,27 @@ mod write;
 use text::Text;
 use turns::{BLOCK, Teller};
 
-// The requests.
-const READ: u8 = 0;
+// What is asked. Words are told as they are, for whoever reads the answers.
+#[derive(Clone, Copy)]
+enum Request {
+    Read,
+    Write(write::Kind),
+    Address,
+    Words,
+}
 
-const WRITE_DATA: u8 = 1;
-
-const WRITE_SYNCHRONIZATION: u8 = 2;
-
-const WRITE_DISCOVERY: u8 = 3;
-
-const ADDRESS: u8 = 4;
-
-// Words that are told as they are, for whoever reads the answers.
-const WORDS: u8 = 5;
+// A request's first byte.
+fn request_of(byte: u8) -> Option<Request> {
+    match byte {
+        0 => Some(Request::Read),
+        1 => Some(Request::Write(write::Kind::Data)),
+        2 => Some(Request::Write(write::Kind::Synchronization)),
+        3 => Some(Request::Write(write::Kind::Discovery)),
+        4 => Some(Request::Address),
+        5 => Some(Request::Words),
+        _ => None,
+    }
+}
 
 fn put_words(out: &mut Text, words: &[u8]) {
     out.put(words);
@@ -34,38 +42,29 @@ fn put_malformed(out: &mut Text, n: u64) {
 }
 
 // The answer to a request of a packet, into a buffer as long as was asked.
-fn put_written(out: &mut Text, n: u64, kind: u8, asked: &[u8]) {
+fn put_written(out: &mut Text, n: u64, kind: write::Kind, asked: &[u8]) {
     let room = write::room(asked);
     if write::MOST_ROOM < room {
         return put_malformed(out, n);
     }
     let mut space = [write::UNTOUCHED; write::MOST_ROOM];
     let buf = &mut space[0..room];
-    match kind {
-        WRITE_DATA => write::put_data(out, n, asked, buf),
-        WRITE_SYNCHRONIZATION => write::put_synchronization(out, n, asked, buf),
-        _ => write::put_discovery(out, n, asked, buf),
-    }
+    let packed = write::pack(kind, asked, buf);
+    write::put_packed(out, n, packed, buf);
 }
 
 // The answer to request n.
-fn put_answer(out: &mut Text, n: u64, request: &[u8]) {
-    if request.len() == 0 {
+fn put_answer(out: &mut Text, n: u64, entry: &[u8]) {
+    let [byte, asked @ ..] = entry else {
         return put_malformed(out, n);
-    }
-    let asked = wire::part(request, 1, request.len() - 1);
-    match request[0] {
-        READ => read::put_reading(out, n, asked),
-        WRITE_DATA => put_written(out, n, WRITE_DATA, asked),
-        WRITE_SYNCHRONIZATION => put_written(out, n, WRITE_SYNCHRONIZATION, asked),
-        WRITE_DISCOVERY => put_written(out, n, WRITE_DISCOVERY, asked),
-        ADDRESS => {
-            if asked.len() < 2 {
-                return put_malformed(out, n);
-            }
+    };
+    match request_of(*byte) {
+        Some(Request::Read) => read::put_reading(out, n, asked),
+        Some(Request::Write(kind)) => put_written(out, n, kind, asked),
+        Some(Request::Address) if 2 <= asked.len() => {
             address::put_address(out, n, wire::u16_at(asked, 0))
         }
-        WORDS => put_words(out, asked),
+        Some(Request::Words) => put_words(out, asked),
         _ => put_malformed(out, n),
     }
 }

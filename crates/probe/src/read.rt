@@ -1,5 +1,5 @@
 // A datagram that is read: every field, and all bytes of what it carries.
-ghost use Rattle.std.specs.Prelude.{◌≡◌, ◌++◌, ◌*◌, min, length, take};
+ghost use Rattle.std.specs.Prelude.{◌≡◌, ◌++◌};
 ghost use Rattle.std.proofs.lemmas.List.Edits.{sets};
 ghost use Rattle.discovery.specs.Universes.{universe_bytes};
 ghost use Rattle.text.specs.Put.{Put};
@@ -31,31 +31,27 @@ fn put_data(out: &mut Text, n: u64, datagram: &[u8], reading: Reading, x: DataRe
     out.put(b"\n");
 }
 
-// Spells numbers as they stand in a datagram, at most `count`, and answers how many bytes that takes.
-fn spell_numbers(bytes: &mut [u8], numbers: &[u16], count: usize) -> usize
-    ensures value { result ≡ 2 * min count (length numbers.now) }
-    ensures bytes_after { bytes.new ≡ sets bytes.old 0 (universe_bytes (take count numbers.now)) }
+// Spells numbers as they stand in a datagram.
+fn spell_numbers(bytes: &mut [u8], numbers: &[u16])
+    ensures { bytes.new ≡ sets bytes.old 0 (universe_bytes numbers.now) }
 {
-    let spelled = &numbers[..wire::least(numbers.len(), count)];
-    for (i, n) in spelled.iter().enumerate() {
+    for (i, n) in numbers.iter().enumerate() {
         wire::put_u16(bytes, UNIVERSE_BYTES * i, *n);
     }
-    UNIVERSE_BYTES * spelled.len()
 }
 
-// The bytes of a datagram's universes, as many as were copied out of it.
-fn spell_universes(bytes: &mut [u8], datagram: &[u8]) -> usize {
-    let mut universes = [0; MOST_UNIVERSES];
-    match parts::copy_universes(datagram, &mut universes) {
-        Ok(count) => spell_numbers(bytes, &universes, count),
-        Err(_) => 0,
-    }
-}
-
+// The bytes of a datagram's universes, as many as can be copied out of it.
 fn put_universes(out: &mut Text, datagram: &[u8]) {
+    let mut universes = [0; MOST_UNIVERSES];
+    let count = parts::copy_universes(datagram, &mut universes).unwrap_or(0);
+    let numbers = &universes[..wire::least(count, MOST_UNIVERSES)];
     let mut bytes = [0; UNIVERSE_BYTES * MOST_UNIVERSES];
-    let len = spell_universes(&mut bytes, datagram);
-    put_bytes(out, b" universes ", wire::part(&bytes, 0, len));
+    spell_numbers(&mut bytes, numbers);
+    put_bytes(
+        out,
+        b" universes ",
+        &bytes[..UNIVERSE_BYTES * numbers.len()],
+    );
 }
 
 // `N disc cid C name H page P last L universes V`

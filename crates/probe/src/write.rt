@@ -25,6 +25,21 @@ const DATA_NAME: usize = 25;
 
 const DISCOVERY_NAME: usize = 20;
 
+// What is written.
+#[derive(Clone, Copy)]
+pub enum Kind {
+    Data,
+    Synchronization,
+    Discovery,
+}
+
+// Why nothing is: the writer refuses, or the probe has no room for the list.
+#[derive(Clone, Copy)]
+pub enum Unpacked {
+    Refused(Refusal),
+    TooLong,
+}
+
 pub fn room(asked: &[u8]) -> usize {
     wire::u16_at(asked, 0) as usize
 }
@@ -69,8 +84,57 @@ fn is_kept(buf: &[u8]) -> bool {
     buf.iter().all(|b| *b == UNTOUCHED)
 }
 
-// `N packed L B`, or a refusal's line with a word more.
-fn put_packed(out: &mut Text, n: u64, packed: Result<usize, Refusal>, buf: &[u8]) {
+fn pack_data(asked: &[u8], buf: &mut [u8]) -> Result<usize, Refusal> {
+    pack::pack_data(
+        buf,
+        cid(asked),
+        data_fields(asked),
+        name_at(asked, DATA_NAME),
+        list_at(asked, DATA_NAME),
+    )
+}
+
+fn pack_synchronization(asked: &[u8], buf: &mut [u8]) -> Result<usize, Refusal> {
+    let fields = SynchronizationFields {
+        sequence_number: wire::byte_at(asked, FIELDS),
+        synchronization_address: wire::u16_at(asked, FIELDS + 1),
+    };
+    pack::pack_synchronization(buf, cid(asked), fields)
+}
+
+fn pack_discovery(asked: &[u8], buf: &mut [u8]) -> Result<usize, Unpacked> {
+    let fields = DiscoveryFields {
+        page: wire::byte_at(asked, FIELDS),
+        last_page: wire::byte_at(asked, FIELDS + 1),
+    };
+    let list = list_at(asked, DISCOVERY_NAME);
+    let count = list.len() / 2;
+    if MOST_LISTED < count {
+        return Err(Unpacked::TooLong);
+    }
+    let mut universes = [0; MOST_LISTED];
+    discovery::copy_universes(list, &mut universes);
+    pack::pack_discovery(
+        buf,
+        cid(asked),
+        fields,
+        name_at(asked, DISCOVERY_NAME),
+        &universes[0..count],
+    )
+    .map_err(Unpacked::Refused)
+}
+
+// Packs what is asked into a buffer.
+pub fn pack(kind: Kind, asked: &[u8], buf: &mut [u8]) -> Result<usize, Unpacked> {
+    match kind {
+        Kind::Data => pack_data(asked, buf).map_err(Unpacked::Refused),
+        Kind::Synchronization => pack_synchronization(asked, buf).map_err(Unpacked::Refused),
+        Kind::Discovery => pack_discovery(asked, buf),
+    }
+}
+
+// `N packed L B`; or a refusal's line with a word more; or `N too long`.
+pub fn put_packed(out: &mut Text, n: u64, packed: Result<usize, Unpacked>, buf: &[u8]) {
     out.put_decimal(n);
     match packed {
         Ok(len) => {
@@ -79,7 +143,7 @@ fn put_packed(out: &mut Text, n: u64, packed: Result<usize, Refusal>, buf: &[u8]
             out.put_hex(buf);
             out.put(b"\n");
         }
-        Err(r) => {
+        Err(Unpacked::Refused(r)) => {
             field_text::put_refusal(out, r);
             out.put(if is_kept(buf) {
                 b" kept\n"
@@ -87,52 +151,6 @@ fn put_packed(out: &mut Text, n: u64, packed: Result<usize, Refusal>, buf: &[u8]
                 b" spoilt\n"
             });
         }
+        Err(Unpacked::TooLong) => out.put(b" too long\n"),
     }
-}
-
-pub fn put_data(out: &mut Text, n: u64, asked: &[u8], buf: &mut [u8]) {
-    let packed = pack::pack_data(
-        buf,
-        cid(asked),
-        data_fields(asked),
-        name_at(asked, DATA_NAME),
-        list_at(asked, DATA_NAME),
-    );
-    put_packed(out, n, packed, buf);
-}
-
-pub fn put_synchronization(out: &mut Text, n: u64, asked: &[u8], buf: &mut [u8]) {
-    let fields = SynchronizationFields {
-        sequence_number: wire::byte_at(asked, FIELDS),
-        synchronization_address: wire::u16_at(asked, FIELDS + 1),
-    };
-    let packed = pack::pack_synchronization(buf, cid(asked), fields);
-    put_packed(out, n, packed, buf);
-}
-
-fn put_too_long(out: &mut Text, n: u64) {
-    out.put_decimal(n);
-    out.put(b" too long\n");
-}
-
-pub fn put_discovery(out: &mut Text, n: u64, asked: &[u8], buf: &mut [u8]) {
-    let fields = DiscoveryFields {
-        page: wire::byte_at(asked, FIELDS),
-        last_page: wire::byte_at(asked, FIELDS + 1),
-    };
-    let list = list_at(asked, DISCOVERY_NAME);
-    let mut universes = [0; MOST_LISTED];
-    discovery::copy_universes(list, &mut universes);
-    let count = list.len() / 2;
-    if MOST_LISTED < count {
-        return put_too_long(out, n);
-    }
-    let packed = pack::pack_discovery(
-        buf,
-        cid(asked),
-        fields,
-        name_at(asked, DISCOVERY_NAME),
-        &universes[0..count],
-    );
-    put_packed(out, n, packed, buf);
 }

@@ -29,33 +29,37 @@ pub(crate) fn first(list: &[u16], n: usize) -> &[u16] {
     &list[0..wire::least(n, list.len())]
 }
 
-// Place i of a list that is filled: 1, 2 and so on, or what no list here has.
-fn number_at(i: usize, ascending: bool) -> u16 {
-    if ascending {
-        (i % 65_535 + 1) as u16
-    } else {
-        SPOILT
-    }
-}
-
-pub(crate) fn fill(list: &mut [u16], ascending: bool) {
+// A list that ascends from 1, as far as numbers go.
+pub(crate) fn fill_ascending(list: &mut [u16]) {
     for (i, n) in list.iter_mut().enumerate() {
-        *n = number_at(i, ascending);
+        *n = (i % 65_535 + 1) as u16;
     }
 }
 
-// A page of a list, written and fed.
-pub(crate) fn fed(
-    collector: &mut Collector,
-    cid: [u8; 16],
-    page: u8,
-    sent: &[u16],
-    memory: &mut [u16],
-    list: &mut [u16],
-) -> Answer {
+// A page of a list, as a packet.
+pub(crate) fn packed(cid: [u8; 16], page: u8, sent: &[u16]) -> [u8; PACKET_ROOM] {
     let mut packet = [0; PACKET_ROOM];
     let _ = universe_pages::pack_page(&mut packet, cid, page, b"desk", sent);
-    collector.collect(&packet, memory, list)
+    packet
+}
+
+// A collector, what it is lent, and where its answers are told.
+#[derive(Drop)]
+pub(crate) struct Bench<'a, P: Print> {
+    rt: &'a P,
+    collector: Collector,
+    memory: &'a mut [u16],
+    list: &'a mut [u16],
+}
+
+impl<'a, P: Print> Bench<'a, P> {
+    pub(crate) fn start_afresh(&mut self) {
+        self.collector = Collector::new(CID);
+    }
+
+    pub(crate) fn feed(&mut self, datagram: &[u8]) -> Answer {
+        self.collector.collect(datagram, self.memory, self.list)
+    }
 }
 
 pub(crate) fn put_answer(out: &mut Text, answer: Answer) {
@@ -72,9 +76,13 @@ pub(crate) fn end_line(rt: &impl Print, out: &mut Text) -> io::Result<()> {
 }
 
 fn main(rt: HostRuntime) -> io::Result<()> {
-    let mut memory = [0; ROOM];
-    let mut list = [0; ROOM];
-    shuffled::lists(&rt, &mut memory, &mut list)?;
-    foreign::pages(&rt, &mut memory, &mut list)?;
-    refused::cases(&rt, &mut memory, &mut list)
+    let mut bench = Bench {
+        rt: &rt,
+        collector: Collector::new(CID),
+        memory: &mut [0; ROOM],
+        list: &mut [0; ROOM],
+    };
+    bench.lists()?;
+    bench.foreign_pages()?;
+    bench.refused_cases()
 }

@@ -1,7 +1,7 @@
 // What is refused, by the page writer and by the collector, with what stays as it was.
-use crate::{CID, LINE_ROOM, OTHER_CID, PACKET_ROOM};
+use crate::{Bench, CID, LINE_ROOM, OTHER_CID, PACKET_ROOM};
 use extended::synchronization::SynchronizationFields;
-use page_collector::{Answer, Collector};
+use page_collector::Answer;
 use refusal::Refusal;
 use std::io;
 use text::Text;
@@ -73,119 +73,68 @@ fn tell(rt: &impl Print, words: &[u8], answer: Answer) -> io::Result<()> {
     crate::end_line(rt, &mut out)
 }
 
-// Feeds what is no page, and tells what became of it.
-fn feed_other(
-    rt: &impl Print,
-    words: &[u8],
-    collector: &mut Collector,
-    datagram: &[u8],
-    memory: &mut [u16],
-    list: &mut [u16],
-) -> io::Result<()> {
-    let answer = collector.collect(datagram, memory, list);
-    tell(rt, words, answer)
-}
+impl<'a, P: Print> Bench<'a, P> {
+    // Feeds a datagram and tells what became of it.
+    fn feed_told(&mut self, words: &[u8], datagram: &[u8]) -> io::Result<()> {
+        let answer = self.feed(datagram);
+        tell(self.rt, words, answer)
+    }
 
-fn feed_others(
-    rt: &impl Print,
-    collector: &mut Collector,
-    memory: &mut [u16],
-    list: &mut [u16],
-) -> io::Result<()> {
-    let mut packet = [0; 49];
-    let fields = SynchronizationFields {
-        sequence_number: 7,
-        synchronization_address: 8000,
-    };
-    let _ = pack::pack_synchronization(&mut packet, CID, fields);
-    feed_other(rt, b"a sync packet:", collector, &packet, memory, list)?;
-    feed_other(rt, b"nothing:", collector, b"", memory, list)
-}
+    // What is no page.
+    fn feed_others(&mut self) -> io::Result<()> {
+        let mut packet = [0; 49];
+        let fields = SynchronizationFields {
+            sequence_number: 7,
+            synchronization_address: 8000,
+        };
+        let _ = pack::pack_synchronization(&mut packet, CID, fields);
+        self.feed_told(b"a sync packet:", &packet)?;
+        self.feed_told(b"nothing:", b"")
+    }
 
-fn feed_page(
-    rt: &impl Print,
-    words: &[u8],
-    collector: &mut Collector,
-    cid: [u8; 16],
-    page: u8,
-    sent: &[u16],
-    memory: &mut [u16],
-    list: &mut [u16],
-) -> io::Result<()> {
-    let answer = crate::fed(collector, cid, page, sent, memory, list);
-    tell(rt, words, answer)
-}
+    fn feed_another_desk(&mut self, sent: &[u16]) -> io::Result<()> {
+        let packet = crate::packed(OTHER_CID, 0, sent);
+        let answer = self.collector.collect(&packet, &mut [], &mut []);
+        tell(self.rt, b"another desk, no room:", answer)
+    }
 
-// One number less than two pages need.
-fn feed_without_room(
-    rt: &impl Print,
-    collector: &mut Collector,
-    sent: &[u16],
-    memory: &mut [u16],
-    list: &mut [u16],
-) -> io::Result<()> {
-    let mut less = [0; 1023];
-    feed_page(
-        rt,
-        b"memory of 1023:",
-        collector,
-        CID,
-        0,
-        sent,
-        &mut less,
-        list,
-    )?;
-    feed_page(
-        rt,
-        b"list of 1023:",
-        collector,
-        CID,
-        0,
-        sent,
-        memory,
-        &mut less,
-    )
-}
+    // One number less than two pages need.
+    fn feed_without_room(&mut self, sent: &[u16]) -> io::Result<()> {
+        let packet = crate::packed(CID, 0, sent);
+        let mut less = [0; 1023];
+        let answer = self.collector.collect(&packet, &mut less, self.list);
+        tell(self.rt, b"memory of 1023:", answer)?;
+        let answer = self.collector.collect(&packet, self.memory, &mut less);
+        tell(self.rt, b"list of 1023:", answer)
+    }
 
-// What is refused between two pages, and moves nothing.
-fn feed_between(
-    rt: &impl Print,
-    collector: &mut Collector,
-    sent: &[u16],
-    memory: &mut [u16],
-    list: &mut [u16],
-) -> io::Result<()> {
-    let words = b"another desk, no room:";
-    feed_others(rt, collector, memory, list)?;
-    feed_page(rt, words, collector, OTHER_CID, 0, sent, &mut [], &mut [])?;
-    feed_without_room(rt, collector, sent, memory, list)
-}
+    // What is refused between two pages, and moves nothing.
+    fn collecting(&mut self, sent: &[u16]) -> io::Result<()> {
+        self.start_afresh();
+        self.feed_told(b"page 1 of 513:", &crate::packed(CID, 1, sent))?;
+        self.feed_others()?;
+        self.feed_another_desk(sent)?;
+        self.feed_without_room(sent)?;
+        self.feed_told(b"page 0 of 513:", &crate::packed(CID, 0, sent))
+    }
 
-fn collecting(
-    rt: &impl Print,
-    many: &[u16],
-    memory: &mut [u16],
-    list: &mut [u16],
-) -> io::Result<()> {
-    let sent = crate::first(many, 513);
-    let own = &mut Collector::new(CID);
-    feed_page(rt, b"page 1 of 513:", own, CID, 1, sent, memory, list)?;
-    feed_between(rt, own, sent, memory, list)?;
-    feed_page(rt, b"page 0 of 513:", own, CID, 0, sent, memory, list)
-}
-
-pub(crate) fn cases(rt: &impl Print, memory: &mut [u16], list: &mut [u16]) -> io::Result<()> {
-    let mut many = [0; MANY];
-    crate::fill(&mut many, true);
-    numbers_of_pages(rt, &many)?;
-    faults_of_a_packet(rt, &many)?;
-    many[1024] = 1024;
-    faults_of_the_list(rt, b"equal on page 2, page 0 or no page asked for:", &many)?;
-    many[1024] = 7;
-    faults_of_the_list(
-        rt,
-        b"falling on page 2, page 0 or no page asked for:",
-        &many,
-    )?;
-    collecting(rt, &many, memory, list)
+    pub(crate) fn refused_cases(&mut self) -> io::Result<()> {
+        let mut many = [0; MANY];
+        crate::fill_ascending(&mut many);
+        numbers_of_pages(self.rt, &many)?;
+        faults_of_a_packet(self.rt, &many)?;
+        many[1024] = 1024;
+        faults_of_the_list(
+            self.rt,
+            b"equal on page 2, page 0 or no page asked for:",
+            &many,
+        )?;
+        many[1024] = 7;
+        faults_of_the_list(
+            self.rt,
+            b"falling on page 2, page 0 or no page asked for:",
+            &many,
+        )?;
+        self.collecting(crate::first(&many, 513))
+    }
 }

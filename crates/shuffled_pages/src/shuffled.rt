@@ -1,6 +1,6 @@
 // Lists of ours, whose pages come in another order than theirs, some of them twice, each with a page of another desk behind.
-use crate::{CID, LINE_ROOM, OTHER_CID, SPOILT};
-use page_collector::{Answer, Collector};
+use crate::{Bench, CID, LINE_ROOM, OTHER_CID, SPOILT};
+use page_collector::Answer;
 use std::io;
 use text::Text;
 
@@ -60,36 +60,6 @@ fn same(sent: &[u16], list: &[u16]) -> bool {
     list.starts_with(sent)
 }
 
-// A page of ours, and the same page of another desk.
-fn turn(
-    collector: &mut Collector,
-    tally: Tally,
-    page: u8,
-    sent: &[u16],
-    memory: &mut [u16],
-    list: &mut [u16],
-) -> Tally {
-    let ours = crate::fed(collector, CID, page, sent, memory, list);
-    let theirs = crate::fed(collector, OTHER_CID, page, sent, memory, list);
-    counted(counted(tally, ours), theirs)
-}
-
-fn collected(
-    sent: &[u16],
-    turns: usize,
-    pages: usize,
-    memory: &mut [u16],
-    list: &mut [u16],
-) -> Tally {
-    let mut collector = Collector::new(CID);
-    let mut tally = Tally::default();
-    for i in 0..turns {
-        let page = page_at(i, pages);
-        tally = turn(&mut collector, tally, page, sent, memory, list);
-    }
-    tally
-}
-
 fn put_tally(out: &mut Text, tally: Tally) {
     out.put_field(b": kept ", tally.kept);
     out.put_field(b", list ", tally.lists);
@@ -127,68 +97,49 @@ fn put_verdict(out: &mut Text, same: bool) {
     });
 }
 
-fn tell(
-    rt: &impl Print,
-    sent: &[u16],
-    pages: usize,
-    turns: usize,
-    tally: Tally,
-    list: &[u16],
-) -> io::Result<()> {
-    let count = tally.count;
-    let mut line = [0; LINE_ROOM];
-    let mut out = Text::new(&mut line);
-    out.put_field(b"universes ", sent.len() as u64);
-    out.put_field(b", pages ", pages as u64);
-    out.put_field(b", fed ", turns as u64);
-    put_tally(&mut out, tally);
-    put_ends(&mut out, count, list);
-    put_verdict(&mut out, came_back(sent, count, list));
-    crate::end_line(rt, &mut out)
-}
+impl<'a, P: Print> Bench<'a, P> {
+    // A page of ours, and the same page of another desk.
+    fn turn(&mut self, tally: Tally, page: u8, sent: &[u16]) -> Tally {
+        let ours = self.feed(&crate::packed(CID, page, sent));
+        let theirs = self.feed(&crate::packed(OTHER_CID, page, sent));
+        counted(counted(tally, ours), theirs)
+    }
 
-// A list of n universes, which makes so many pages.
-fn trip(
-    rt: &impl Print,
-    all: &[u16],
-    n: usize,
-    pages: u8,
-    memory: &mut [u16],
-    list: &mut [u16],
-) -> io::Result<()> {
-    let sent = crate::first(all, n);
-    let pages = pages as usize;
-    let turns = 3 * pages;
-    crate::fill(list, false);
-    let tally = collected(sent, turns, pages, memory, list);
-    tell(rt, sent, pages, turns, tally, list)
-}
+    fn collected(&mut self, sent: &[u16], turns: usize, pages: usize) -> Tally {
+        self.start_afresh();
+        let mut tally = Tally::default();
+        for i in 0..turns {
+            tally = self.turn(tally, page_at(i, pages), sent);
+        }
+        tally
+    }
 
-fn lists_of_one_page(
-    rt: &impl Print,
-    all: &[u16],
-    memory: &mut [u16],
-    list: &mut [u16],
-) -> io::Result<()> {
-    trip(rt, all, 0, 1, memory, list)?;
-    trip(rt, all, 1, 1, memory, list)?;
-    trip(rt, all, 512, 1, memory, list)
-}
+    // A list of n universes, which makes so many pages.
+    fn trip(&mut self, all: &[u16], n: usize, pages: u8) -> io::Result<()> {
+        let sent = crate::first(all, n);
+        let pages = pages as usize;
+        let turns = 3 * pages;
+        self.list.fill(SPOILT);
+        let tally = self.collected(sent, turns, pages);
+        let mut line = [0; LINE_ROOM];
+        let mut out = Text::new(&mut line);
+        out.put_field(b"universes ", sent.len() as u64);
+        out.put_field(b", pages ", pages as u64);
+        out.put_field(b", fed ", turns as u64);
+        put_tally(&mut out, tally);
+        put_ends(&mut out, tally.count, self.list);
+        put_verdict(&mut out, came_back(sent, tally.count, self.list));
+        crate::end_line(self.rt, &mut out)
+    }
 
-fn lists_of_more_pages(
-    rt: &impl Print,
-    all: &[u16],
-    memory: &mut [u16],
-    list: &mut [u16],
-) -> io::Result<()> {
-    trip(rt, all, 513, 2, memory, list)?;
-    trip(rt, all, 1024, 2, memory, list)?;
-    trip(rt, all, MOST_UNIVERSES, 125, memory, list)
-}
-
-pub(crate) fn lists(rt: &impl Print, memory: &mut [u16], list: &mut [u16]) -> io::Result<()> {
-    let mut all = [0; MOST_UNIVERSES];
-    crate::fill(&mut all, true);
-    lists_of_one_page(rt, &all, memory, list)?;
-    lists_of_more_pages(rt, &all, memory, list)
+    pub(crate) fn lists(&mut self) -> io::Result<()> {
+        let mut all = [0; MOST_UNIVERSES];
+        crate::fill_ascending(&mut all);
+        self.trip(&all, 0, 1)?;
+        self.trip(&all, 1, 1)?;
+        self.trip(&all, 512, 1)?;
+        self.trip(&all, 513, 2)?;
+        self.trip(&all, 1024, 2)?;
+        self.trip(&all, MOST_UNIVERSES, 125)
+    }
 }

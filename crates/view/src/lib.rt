@@ -28,6 +28,7 @@ pub fn view<'a>(datagram: &'a [u8]) -> Viewer<'a>
 }
 
 // The name, as the part of the datagram that it occupies; empty where there is none.
+// README names this crate as one to use, so `view::name` and `view::values` stay functions of a viewer.
 pub fn name<'a>(viewer: Viewer<'a>) -> &'a [u8]
     ensures { result.now ≡ shown_at viewer.entry.datagram.now viewer.entry.name }
 {

@@ -48,7 +48,7 @@ impl Teller for Explainer {
     }
 }
 
-// The whole program. The buffers hold an entry with its length, and a line.
+// The whole program, over any buffers; `told` is of those that hold an entry with its length, and a line.
 fn run(rt: &(impl Input + Print + Eprint), block: &mut [u8], out: &mut Text) -> State
     ensures { Ran telling block.old out.old block.new out.new result }
 {

@@ -6,20 +6,26 @@ pub literal-returns-then-c-eq-STAR : goal.literal-returns-then-c-eq-STAR
 literal-returns-then-c-eq-STAR t c =
     let p = c.args.pattern.now in
     let n = c.args.name.now in
-    steps.says c.verdict.result p n (sym c.verdict.ensures) (steps.star_says c.star.result p n (omega arith) (omega arith) (rw c.tail.ensures at c.star.ensures))
+    steps.says c.verdict.result p n (sym c.verdict.ensures) (steps.star_says c.star.result p n (omega arith) (omega arith) (rw (steps.tail_part p) at c.star.ensures))
 
 pub literal-returns-then-c-eq-QUESTION : goal.literal-returns-then-c-eq-QUESTION
 literal-returns-then-c-eq-QUESTION t c =
-    steps.question_says c.rest.result c.args.pattern.now c.args.name.now (omega arith) (omega arith) (omega arith) c.if-inside.ensures
-    (rw (c.tail-then-c-eq-QUESTION.ensures, c.tail-then-c-eq-QUESTION-2.ensures) at c.rest.ensures)
+    let p = c.args.pattern.now in
+    let n = c.args.name.now in
+    steps.question_says c.rest.result p n (omega arith) (omega arith) (omega arith) c.if-inside.ensures
+    (rw (steps.tail_part p, steps.tail_part n) at c.rest.ensures)
 
 pub literal-returns : goal.literal-returns
 literal-returns t c =
-    steps.byte_says c.literal.result c.args.pattern.now c.args.name.now (omega arith) (omega arith) (omega arith) (omega arith)
-    (rw (c.tail-2.ensures, c.tail-3.ensures) at c.literal.ensures)
+    let p = c.args.pattern.now in
+    let n = c.args.name.now in
+    steps.byte_says c.literal.result p n (omega arith) (omega arith) (omega arith) (omega arith)
+    (rw (steps.tail_part p, steps.tail_part n) at c.literal.ensures)
 
 pub rest-returns-then-inside : goal.rest-returns-then-inside
-rest-returns-then-inside t c = rw (steps.beyond_on c.args.name.now c.if-inside.ensures) (rw c.tail.ensures at c.rest.ensures)
+rest-returns-then-inside t c =
+    let n = c.args.name.now in
+    rw (steps.beyond_on n c.if-inside.ensures) (rw (steps.tail_part n) at c.rest.ensures)
 
 pub rest-returns : goal.rest-returns
 rest-returns t c = rw (steps.beyond_here c.args.name.now c.if-inside.ensures) c.literal.ensures

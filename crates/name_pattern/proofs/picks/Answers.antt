@@ -1,23 +1,22 @@
-use native.Mathlib.Omega.{arith}
-use Rattle.name_pattern.specs.declared.Outcome.TheVariants.{Taken, NotHere, Nowhere}
-use Rattle.name_pattern.proofs.Steps.{says, star_here}
-use Rattle.name_pattern.proofs.Answers.{not_asked, picked, not_picked}
+use Rattle.std.proofs.Common.{sym, ◌∙◌, arith}
+use Rattle.name_pattern.specs.declared.Outcome.TheVariants.{Taken}
+use Rattle.name_pattern.proofs.Steps.{says, not_taken}
+use Rattle.name_pattern.proofs.Answers.{not_asked, refused, allowed, picked, not_picked}
+use Rattle.name_pattern.proofs.picks.Goals.{then-is_err-via-then-is_err, then-is_err-via-else-is_err+then-whole_characters-name}
 use Rattle.name_pattern.proofs.picks.Goals as goal
 
-pub returns-then-pattern-gt-LONGEST_PATTERN : goal.returns-then-pattern-gt-LONGEST_PATTERN
-returns-then-pattern-gt-LONGEST_PATTERN c = not_asked _ _ (omega arith)
-
-pub returns-then-whole_characters-pattern : goal.returns-then-whole_characters-pattern
-returns-then-whole_characters-pattern c = not_asked _ _ (omega arith)
-
-pub returns-then-whole_characters-name : goal.returns-then-whole_characters-name
-returns-then-whole_characters-name c = not_asked _ _ (omega arith)
-
 pub returns-in-Taken : goal.returns-in-Taken
-returns-in-Taken c = picked _ _ (omega arith) (says Taken _ _ c.in-Taken.is c.literal-outcome.ensures)
+returns-in-Taken c =
+    let h = allowed _ c.check_pattern.ensures (sym c.is_err.ensures.value ∙ c.if-is_err.false) in
+    picked _ _ (h.0, (h.1.0, omega arith)) (says Taken _ _ c.in-Taken.is c.literal.ensures)
 
-pub returns-in-NotHere : goal.returns-in-NotHere
-returns-in-NotHere c = not_picked _ _ (omega arith) (says NotHere _ _ c.in-NotHere.is c.literal-outcome.ensures)
+pub returns-in_default : goal.returns-in_default
+returns-in_default c =
+    let h = allowed _ c.check_pattern.ensures (sym c.is_err.ensures.value ∙ c.if-is_err.false) in
+    not_picked _ _ (h.0, (h.1.0, omega arith)) (not_taken c.literal.result _ _ c.in_default.not-Taken c.literal.ensures)
 
-pub returns-in-Nowhere : goal.returns-in-Nowhere
-returns-in-Nowhere c = not_picked _ _ (omega arith) (λ f. says Nowhere _ _ c.in-Nowhere.is c.literal-outcome.ensures (star_here _ _ f))
+pub returns-then-is_err : goal.returns-then-is_err
+returns-then-is_err c = elim c.then-is_err.branch [
+  | then-is_err-via-then-is_err w ↦ refused _ _ c.check_pattern.ensures (sym c.is_err.ensures.value ∙ w.if-is_err.true)
+  | then-is_err-via-else-is_err+then-whole_characters-name w ↦ not_asked _ _ (omega arith)
+]

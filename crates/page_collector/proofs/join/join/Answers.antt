@@ -12,23 +12,17 @@ use Rattle.page_collector.proofs.join.join.Goals as goal
 there : (cs : List (Option ℕ)) → true ≡ outcome (all_pages_there cs) → Holds (all_pages_there cs)
 there cs e = holds (all_pages_there cs) (sym e)
 
-pub pages_ascend-requires-clause-holds : goal.pages_ascend-requires-clause-holds
-pages_ascend-requires-clause-holds c = there c.args.counts.now c.if-not-has_all_pages.ensures
-
-pub copy_pages-count-requires-clause-holds : goal.copy_pages-count-requires-clause-holds
-copy_pages-count-requires-clause-holds c = there c.args.counts.now c.if-not-has_all_pages.ensures
-
 pub returns-then-not-has_all_pages : goal.returns-then-not-has_all_pages
 returns-then-not-has_all_pages c =
     let cs = c.args.counts.now in
     let m = c.args.memory.now in
     rw (one_missing cs m (fails (all_pages_there cs) (sym c.if-not-has_all_pages.ensures))) (record { answer = refl; list = refl })
 
-pub returns-then-not-pages_ascend : goal.returns-then-not-pages_ascend
-returns-then-not-pages_ascend c =
+pub returns-then-not-ascend : goal.returns-then-not-ascend
+returns-then-not-ascend c =
     let cs = c.args.counts.now in
     let m = c.args.memory.now in
-    let fall : Fails (rising (joined cs m)) = fails (rising (joined cs m)) (sym c.if-not-pages_ascend.ensures) in
+    let fall : Fails (rising (joined cs m)) = fails (rising (joined cs m)) (sym c.if-not-ascend.ensures) in
     rw (all_joined cs m (there cs c.if-not-has_all_pages.ensures)) (record {
       answer = c.refuse.ensures ∙ sym (fallen (joined cs m) fall);
       list = sym (fallen_list (joined cs m) c.args.list.now fall);
@@ -38,8 +32,8 @@ pub returns : goal.returns
 returns c =
     let cs = c.args.counts.now in
     let m = c.args.memory.now in
-    let rise : Holds (rising (joined cs m)) = holds (rising (joined cs m)) (sym c.if-not-pages_ascend.ensures) in
+    let rise : Holds (rising (joined cs m)) = holds (rising (joined cs m)) (sym c.if-not-ascend.ensures) in
     rw (all_joined cs m (there cs c.if-not-has_all_pages.ensures)) (record {
-      answer = ap list_of c.copy_pages-count.ensures.count ∙ sym (risen (joined cs m) rise);
-      list = c.copy_pages-count.ensures.list ∙ sym (risen_list (joined cs m) c.args.list.now rise);
+      answer = ap list_of c.copy_to-count.ensures.count ∙ sym (risen (joined cs m) rise);
+      list = c.copy_to-count.ensures.list ∙ sym (risen_list (joined cs m) c.args.list.now rise);
     })
