@@ -1,6 +1,8 @@
 -- Demand 1 for the calls that read and write packets: two results that satisfy a call's contract are equal, of a returned part its bytes, and so are
 -- two buffers at exit. Each line names the call, and its contract is what the kit made of the call's own `ensures`. `SettledText`, `SettledEdge` and
 -- `SettledSystem` have the other libraries' calls. Assumes nothing.
+use denote.RattleType.{RattleType}
+use denote.Param.Laws.{Laws}
 use lib.ListN.{take}
 use Rattle.name.specs.Name.{Alike}
 use Rattle.name.proofs.Decided.{alike}
@@ -24,6 +26,10 @@ use Rattle.demands.proofs.Contracts.{Settled, settled, SettledAlike, settled_ali
 -- refusal
 pub new : Settled Refusal.Refusal.new.Reads.Learnt
 new = settled (λ k a r e p. p)
+
+-- for whatever it would have handed back
+pub refuse : (T : RattleType) (l : Laws T) → Settled (Refusal.refuse.Reads.Learnt T l)
+refuse T l = settled (λ k a r e p. p)
 
 -- wire
 pub byte_at : Settled Wire.byte_at.Reads.Learnt
