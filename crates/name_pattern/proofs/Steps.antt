@@ -89,9 +89,6 @@ pub all_taken : (n : List ℕ) → None n → Fits [] n
 all_taken [] h = ends
 all_taken (b ∷ n) h = absurd (omega arith)
 
-pub left_over : (n : List ℕ) → Some n → Fits [] n → ⊥
-left_over n h ends = h refl
-
 -- The steps of `literal`, for a pattern and a name as they are lent.
 pub without_pattern_lem : (o : Outcome) (p n : List ℕ) → None p → Says o [] n → Says o p n
 without_pattern_lem o [] n h t = t
@@ -226,7 +223,3 @@ beyond_here (b ∷ n) i = sym (passed_over (goes_on b) (beyond n) (b ∷ n) (beg
 pub inside_some : (n : List ℕ) → Inside n → 1 ≤ length n
 inside_some [] i = absurd i
 inside_some (b ∷ n) i = omega arith
-
-pub outside_none : (n : List ℕ) → None n → Inside n → ⊥
-outside_none [] h i = i
-outside_none (b ∷ n) h i = omega arith

@@ -296,9 +296,6 @@ counts T past m (m' ∷ []) t h = one_later T past m m' t.0 h
 counts T past m (m' ∷ m'' ∷ ms) t h =
     omega (arith, counts T (later past m t.0.0) m' (m'' ∷ ms) t.2 h, one_later T past m m' t.0 t.2.1)
 
-pub no_turns : (T : Telling) (block : List ℕ) (out : Text) → out.len ≡ 0 → SoFar T block out block out begun 0 []
-no_turns T block out none = ([], tt, λ i. record { state = begun; block = block; out = record out { len = sym none i } }, refl, refl)
-
 pub entries_so_far : (T : Telling) (b : List ℕ) (o : Text) (b' : List ℕ) (o' : Text) (s : State) (n : ℕ) (past : List (List ℕ)) → SoFar T b o b' o' s n past → s.going ≡ true → length past ≡ n
 entries_so_far T b o b' o' s n past (ms, t, e, k, is) goes =
     let going : (last_of (beginning b o) ms).state.going ≡ true = ap (λ (x : Moment). x.state.going) e ∙ goes in

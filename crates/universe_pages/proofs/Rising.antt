@@ -103,18 +103,10 @@ behind_last low (u ∷ v ∷ us) h =
     let last : length (u ∷ v ∷ us) - 1 ≡ suc (length (v ∷ us) - 1) = omega arith in
     rw last (behind_last (u + 1) (v ∷ us) (omega arith))
 
--- Numbers that rise from a bound on: none do, the first decides, and then their order.
-pub from_none : (low : ℕ) (us : List ℕ) → length us ≡ 0 → Holds (rising_from low us)
-from_none low [] h = omega arith
-from_none low (u ∷ us) h = absurd (omega arith)
-
+-- Numbers that rise from a bound on: the first decides, and then their order.
 pub from_first : (low : ℕ) (us : List ℕ) → low ≤ get_or us 0 0 → Holds (rising us) → Holds (rising_from low us)
 from_first low [] h r = omega arith
 from_first low (u ∷ us) h r = (h, r.1)
-
-pub first_below : (low : ℕ) (us : List ℕ) → 0 < length us → get_or us 0 0 < low → Fails (rising_from low us)
-first_below low [] h b = absurd (omega arith)
-first_below low (u ∷ us) h b = λ k. absurd (omega arith)
 
 pub refused→falls : (low : ℕ) (us : List ℕ) (r : Refusal) → checked_of (order_checks us) ≡ Err r → Fails (rising_from low us)
 unfolding checked_of
