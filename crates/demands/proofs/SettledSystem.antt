@@ -1,6 +1,7 @@
 -- Demand 1 for the calls that use the system: two results that satisfy a call's contract, and of which the system said the same, are equal, and so
 -- are two buffers at exit. Assumes nothing.
 use mathlib.Core.Path.{◌≡◌, sym, ap, ◌∙◌}
+use mathlib.Core.List.{[]}
 use denote.RattleType.{RattleType}
 use denote.Param.Laws.{Laws}
 use mir.Syntax.{Dict}
@@ -18,7 +19,10 @@ use Rattle.capture_input.proofs as CaptureInput
 use Rattle.capture_input.proofs.Once.{Same, took_once}
 use Rattle.capture_input.specs.Entries.{unread_in}
 use Rattle.turns.proofs as Turns
-use Rattle.turns.specs.Turn.{over}
+use Rattle.turns.proofs.Once.{ran_once}
+use Rattle.turns.specs.Turn.{Telling, over}
+use Rattle.turns.specs.Run.{beginning, SameSystem}
+use Rattle.turns.specs.declared.Teller as Teller
 use Rattle.demands.proofs.SettledText.{seen}
 use Rattle.demands.proofs.Contracts.{Settled, settled, SettledIf}
 
@@ -113,6 +117,25 @@ module _ (T : RattleType) (L : Laws T) (G1 : Print.Ghosts T.Denot) (d1 : Dict) (
   finish k a r s e f p q same =
       let wrote = same_write e.0.now.wrote f.0.now.wrote (p.handed ∙ sym q.handed) same in
       (p.done ∙ ap (over _) wrote ∙ sym q.done, λ i. ((p.empty ∙ sym q.empty) i, (p.text ∙ sym q.text) i))
+
+-- A whole program over a capture, for every runtime and every program.
+module _ (P T1 T2 : RattleType) (L0 : Laws P) (L1 : Laws T1) (L2 : Laws T2) (G0 : Teller.Ghosts P.Denot) (d0 : Dict) (G1 : Input.Ghosts T1.Denot T2.Denot) (d1 : Dict)
+    (G2 : BufRead.Ghosts T2.Denot) (d2 : Dict) (G3 : Read.Ghosts T2.Denot) (d3 : Dict) (G4 : Print.Ghosts T1.Denot) (d4 : Dict) (G5 : Eprint.Ghosts T1.Denot) (d5 d6 : Dict) where
+  -- by something that the program tells by at its start, at each turn the same bytes arrived and the system said the same: both runs end in the
+  -- same state, but for the place of what is unread, with the same bytes unread and the same text
+  pub run_program : SettledIf (Turns.run_program.Reads.Learnt P T1 T2 L0 L1 L2 G0 d0 G1 d1 G2 d2 G3 d3 G4 d4 G5 d5 d6)
+      (λ k a r s e f p q.
+      let start = beginning a.1.1.0.now a.1.1.1.0.now in
+      (T : Telling) × (known : G0.knows T a.1.0.now []) × SameSystem T [] [] start start (p T known).2.0 (q T known).2.0 (p T known).2.1 (q T known).2.1)
+      (λ k r s e f.
+      (unread_in e.1.1.0.now r.unread ≡ unread_in f.1.1.0.now s.unread)
+      × (r.unread.heard ≡ s.unread.heard)
+      × (r.wrote ≡ s.wrote)
+      × (r.going ≡ s.going)
+      × (seen e.1.1.1.0.now ≡ seen f.1.1.1.0.now))
+  run_program k a r s e f p q (T, known, same) =
+      let alike = ran_once T _ a.1.1.1.0.now _ _ _ _ _ _ (p T known) (q T known) same in
+      (alike.unread, alike.heard, alike.wrote, alike.going, λ i. (alike.place i, alike.text i))
 
 -- a line on standard error: nothing is answered
 module _ (T : RattleType) (L : Laws T) (G : Eprint.Ghosts T.Denot) (d : Dict) where

@@ -133,6 +133,17 @@ Ran T block out block' out' state =
     × (n ≤ 0xffff_ffff_ffff_ffff)
     × (state.going ≡ true → n ≡ 0xffff_ffff_ffff_ffff)
 
+-- Of two runs, as far as both go: at each turn the same bytes arrived, and the system said the same to the last read, and took all text of both
+-- or not of either. How many turns each has is left open.
+abbrev pub SameSystem : (T : Telling) (past behind : List (List ℕ)) (m n : Moment) (ms ns : List Moment) → Turns T past m ms → Turns T behind n ns → Type 0
+SameSystem T past behind m n [] ns t u = Unit {0}
+SameSystem T past behind m n (m' ∷ ms) [] t u = Unit {0}
+SameSystem T past behind m n (m' ∷ ms) (n' ∷ ns) t u =
+    (t.0.0 ≡ u.0.0)
+    × (m'.state.unread.heard.said ≡ n'.state.unread.heard.said)
+    × (m'.state.wrote.all ≡ n'.state.wrote.all)
+    × SameSystem T (later past m t.0.0) (later behind n u.0.0) m' n' ms ns t.2 u.2
+
 -- What a program that ran has done, t its turns: all text that left is the text of the whole input, and it ended because the system said that
 -- the input ends, or at a bad length; or it broke off, because a read failed or the system did not take text.
 abbrev pub Told : (T : Telling) (block : List ℕ) (out : Text) (ms : List Moment) → Turns T [] (beginning block out) ms → State → Type 0
