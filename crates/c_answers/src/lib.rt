@@ -88,7 +88,9 @@ pub fn flatten(reading: Reading) -> Found
     ensures { result ≡ found_of reading }
 {
     let cid = reading.cid;
-    match reading.packet {
+    // A value of its own: matched in its place it would be copied by calls.
+    let packet = reading.packet;
+    match packet {
         Packet::Data(x) => Found {
             kind: DATA,
             cid,

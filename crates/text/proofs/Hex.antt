@@ -1,9 +1,12 @@
 -- Bytes in hex, one after the other. Assumes nothing.
-use Rattle.std.proofs.Common.{◌≡◌, ℕ, zero, suc, ◌+◌, ◌*◌, ◌≤◌, ◌<◌, List, [], ◌∷◌, ◌++◌, length, take, get_or, refl, arith, add-one, take-suc, take_all}
-use Rattle.text.specs.Put.{Put}
+use Rattle.std.proofs.Common.{◌≡◌, ℕ, suc, ◌+◌, ◌*◌, ◌≤◌, ◌<◌, min, List, [], ◌∷◌, ◌++◌, length, take, get_or, refl, sym, ap, ◌∙◌, arith, add-one, take-suc, length-take-le}
 use Rattle.text.specs.Digits.{hex_byte, hex_bytes, hex}
-use Rattle.text.specs.declared.Text.{Text}
-use Rattle.text.proofs.Puts.{put_then}
+use Rattle.std.proofs.Math.Seq.{length-sets}
+use Rattle.wire.proofs.Laws.{sets_append}
+use Rattle.std.proofs.lemmas.List.Edits.{sets}
+use Rattle.refusal.specs.Check.{◌≤?◌}
+use Rattle.refusal.proofs.Tests.{decide}
+use Rattle.wire.proofs.Laws.{sets_past}
 
 hex_bytes_append : (xs ys : List ℕ) → hex_bytes (xs ++ ys) ≡ hex_bytes xs ++ hex_bytes ys
 unfolding hex_bytes
@@ -29,24 +32,27 @@ unfolding hex
 hex_none [] h = refl
 hex_none (b ∷ s) h = absurd (omega arith)
 
--- the first i bytes are put: nothing moved where that is none, else they stand behind the text
-abbrev pub PutSoFar : List ℕ → Text → Text → ℕ → Type 0
-PutSoFar s before after zero = after ≡ before
-PutSoFar s before after (suc i) = Put before after (hex_bytes (take (suc i) s))
-
-pub put_more : (s : List ℕ) (a b c : Text) (i : ℕ) → i < length s → PutSoFar s a b i → Put b c (hex_byte (get_or s i 0)) → PutSoFar s a c (i + 1)
-put_more s a b c zero h same p = rw (hex_first s h, ← same) p
-put_more s a b c (suc i) h so_far p = rw (add-one, hex_more s (suc i) h) (put_then so_far p)
-
-pub put_whole : (s : List ℕ) (a b : Text) (i : ℕ) → (length s ≡ 0 → ⊥) → length s ≤ i → PutSoFar s a b i → Put a b (hex s)
-put_whole s a b zero some all same = absurd (some (omega arith))
-put_whole s a b (suc i) some all put = rw (hex_some s (omega (arith, some))) (rw (take_all (suc i) s all) at put)
-
 -- two digits a byte, or `-`
 pub hex_bytes_length : (s : List ℕ) → length (hex_bytes s) ≡ 2 * length s
 unfolding hex_bytes
 hex_bytes_length [] = refl
 hex_bytes_length (b ∷ s) = omega (arith, hex_bytes_length s)
+
+-- the first i bytes are put, and the next one behind them; a place that the buffer does not have may be told as its last number
+sets_clamped : (vs l : List ℕ) (i j most : ℕ) → j ≡ min i most → length l ≤ most → sets l j vs ≡ sets l i vs
+sets_clamped vs l i j most e h = decide (i ≤? most)
+    (λ k. ap (λ (at : ℕ). sets l at vs) (omega (arith, e, k)))
+    (λ k. sets_past vs l j (omega (arith, e, h, k)) ∙ sym (sets_past vs l i (omega (arith, h, k))))
+
+pub put_more : (s l : List ℕ) (at i place most : ℕ) → i < length s → place ≡ min (at + 2 * i) most → length l ≤ most →
+    sets (sets l at (hex_bytes (take i s))) place (hex_byte (get_or s i 0)) ≡ sets l at (hex_bytes (take (i + 1) s))
+put_more s l at i place most h e room =
+    let xs = hex_bytes (take i s) in
+    let ys = hex_byte (get_or s i 0) in
+    let size : length xs ≡ 2 * i = hex_bytes_length (take i s) ∙ ap (λ (n : ℕ). 2 * n) (length-take-le i s (omega arith)) in
+    let fits : length (sets l at xs) ≤ most = omega (arith, length-sets l at xs, room) in
+    sets_clamped ys (sets l at xs) (at + 2 * i) place most e fits
+    ∙ rw (add-one, hex_more s i h, sets_append, size) refl
 
 pub hex_length : (s : List ℕ) → length (hex s) ≤ 2 * length s + 1
 unfolding hex

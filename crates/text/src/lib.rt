@@ -3,6 +3,7 @@
 #![tactic(auto)]
 
 ghost use Rattle.std.specs.Prelude.{◌≡◌, ◌++◌, ◌+◌, ◌<◌, min, length, take};
+ghost use Rattle.std.proofs.lemmas.List.Edits.{sets};
 ghost use Rattle.text.specs.Put.{Put, emptied};
 ghost use Rattle.text.specs.Digits.{decimal, hex_digit, hex_byte, hex};
 
@@ -28,6 +29,15 @@ fn hex_digit(x: u8) -> u8
     ensures { (result ≡ hex_digit x) × (result < 0x100) }
 {
     if x < 10 { b'0' + x } else { b'a' + (x - 10) }
+}
+
+// As one number of two bytes: a copy of two bytes would cost more.
+fn put_hex_byte(bytes: &mut [u8], at: usize, b: u8)
+    ensures { bytes.new ≡ sets bytes.old at (hex_byte b) }
+{
+    let high = hex_digit(b / 16) as u16;
+    let low = hex_digit(b % 16) as u16;
+    wire::put_u16(bytes, at, high * 0x100 + low);
 }
 
 impl<'a> Text<'a> {
@@ -76,25 +86,17 @@ impl<'a> Text<'a> {
         self.put_decimal(n);
     }
 
-    // As one number of two bytes: a copy of two bytes would cost more.
-    fn put_hex_byte(&mut self, b: u8)
-        ensures { Put self.old self.new (hex_byte b) }
-    {
-        let high = hex_digit(b / 16) as u16;
-        let low = hex_digit(b % 16) as u16;
-        wire::put_u16(self.bytes, self.len, high * 0x100 + low);
-        self.len = place_behind(self.bytes.len(), self.len, HEX_BYTE);
-    }
-
-    // Two digits a byte, in lower case; `-` where there are no bytes.
+    // Two digits a byte, in lower case; `-` where there are no bytes. Each byte has its own place, and the text ends
+    // behind the last: a place moved on at each byte costs half as much again.
     pub fn put_hex(&mut self, s: &[u8])
         ensures { Put self.old self.new (hex s.now) }
     {
         if s.is_empty() {
             return self.put(b"-");
         }
-        for b in s {
-            self.put_hex_byte(*b);
+        for (i, b) in s.iter().enumerate() {
+            put_hex_byte(self.bytes, self.len.saturating_add(HEX_BYTE * i), *b);
         }
+        self.len = place_behind(self.bytes.len(), self.len, HEX_BYTE * s.len());
     }
 }

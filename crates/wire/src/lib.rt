@@ -5,7 +5,7 @@
 pub mod constants;
 pub mod layout;
 
-ghost use Rattle.std.specs.Prelude.{◌≡◌, min};
+ghost use Rattle.std.specs.Prelude.{◌≡◌, ◌≤◌, min, length};
 ghost use Rattle.std.proofs.lemmas.List.Edits.{sets};
 ghost use Rattle.wire.specs.Fields.{byte_at, u16_at, u32_at, part_of, be16, be32};
 
@@ -60,6 +60,16 @@ pub fn least(a: usize, b: usize) -> usize
     a.min(b)
 }
 
+// As a loop under one bound this compiles to wide moves; `copy_from_slice` would call the C library's memmove.
+fn copy_run(buf: &mut [u8], src: &[u8])
+    requires { length src.now ≤ length buf.old }
+    ensures { buf.new ≡ sets buf.old 0 src.now }
+{
+    for (i, b) in src.iter().enumerate() {
+        buf[i] = *b;
+    }
+}
+
 pub fn copy(buf: &mut [u8], at: usize, src: &[u8])
     ensures { buf.new ≡ sets buf.old at src.now }
 {
@@ -67,13 +77,21 @@ pub fn copy(buf: &mut [u8], at: usize, src: &[u8])
         return;
     }
     let n = least(src.len(), buf.len() - at);
-    buf[at..at + n].copy_from_slice(&src[..n]);
+    copy_run(&mut buf[at..], &src[..n]);
 }
 
+// Two stores: hex text is put by this call, for which a copy of two bytes costs twice as much.
 pub fn put_u16(buf: &mut [u8], at: usize, v: u16)
     ensures { buf.new ≡ sets buf.old at (be16 v) }
 {
-    copy(buf, at, &u16::to_be_bytes(v));
+    if buf.len() <= at {
+        return;
+    }
+    let [high, low] = v.to_be_bytes();
+    buf[at] = high;
+    if at + 1 < buf.len() {
+        buf[at + 1] = low;
+    }
 }
 
 pub fn put_u32(buf: &mut [u8], at: usize, v: u32)

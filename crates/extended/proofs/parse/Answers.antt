@@ -1,4 +1,4 @@
-use Rattle.std.specs.Prelude.{ℕ, List, ◌≡◌, Ok, Err}
+use Rattle.std.specs.Prelude.{ℕ, List, ◌≡◌, Ok}
 use mathlib.Core.Path.{sym, ◌∙◌}
 use Rattle.refusal.specs.Check.{framing}
 use Rattle.refusal.proofs.Laws.{handed_on, gone_on}

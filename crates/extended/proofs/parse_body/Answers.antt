@@ -62,16 +62,16 @@ returns-then-vector-eq-VECTOR_E131_EXTENDED_SYNCHRONIZATION c =
     (chosen _ _ _ c.if-vector-eq-VECTOR_E131_EXTENDED_SYNCHRONIZATION.true (gone_on synchronization c.in_ok-fields.ensures refl))
     ∙ sym (by_kind _ _ _ _)
 
-pub returns-in_err-layer : goal.returns-in_err-layer
-returns-in_err-layer c =
+pub returns-in-Err : goal.returns-in-Err
+returns-in-Err c =
     pass _ _ _ (omega arith)
-    (passed_over _ _ _ c.if-vector-eq-VECTOR_E131_EXTENDED_SYNCHRONIZATION.false (handed_on discovery c.in_err-layer.ensures c.from_residual-in_err-layer.ensures.1))
+    (passed_over _ _ _ c.if-vector-eq-VECTOR_E131_EXTENDED_SYNCHRONIZATION.false (handed_on discovery (sym c.in-Err.is ∙ c.parse-then-vector-eq-VECTOR_E131_EXTENDED_DISCOVERY.ensures) refl))
     ∙ sym (by_kind _ _ _ _)
 
-pub returns-then-vector-eq-VECTOR_E131_EXTENDED_DISCOVERY : goal.returns-then-vector-eq-VECTOR_E131_EXTENDED_DISCOVERY
-returns-then-vector-eq-VECTOR_E131_EXTENDED_DISCOVERY c =
+pub returns-in-Ok : goal.returns-in-Ok
+returns-in-Ok c =
     pass _ _ _ (omega arith)
-    (passed_over _ _ _ c.if-vector-eq-VECTOR_E131_EXTENDED_SYNCHRONIZATION.false (gone_on discovery c.in_ok-layer.ensures refl))
+    (passed_over _ _ _ c.if-vector-eq-VECTOR_E131_EXTENDED_SYNCHRONIZATION.false (gone_on discovery (sym c.in-Ok.is ∙ c.parse-then-vector-eq-VECTOR_E131_EXTENDED_DISCOVERY.ensures) refl))
     ∙ sym (by_kind _ _ _ _)
 
 pub returns : goal.returns

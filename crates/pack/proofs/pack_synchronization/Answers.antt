@@ -1,4 +1,4 @@
-use Rattle.std.proofs.Common.{◌≡◌, ◌≤◌, length, refl, ◌∙◌, arith, rules}
+use Rattle.std.proofs.Common.{◌≡◌, ◌≤◌, length, refl, ap, Err, ◌∙◌, arith, rules}
 use Rattle.refusal.proofs.Laws.{stop, pass}
 use Rattle.wire.proofs.Laws.{sets_front}
 use Rattle.pack.specs.Writing.{synchronization_bytes, packed_of}
@@ -7,7 +7,7 @@ use Rattle.pack.proofs.pack_synchronization.Goals as goal
 
 pub returns-then-buf-lt-SYNCHRONIZATION_LENGTH : goal.returns-then-buf-lt-SYNCHRONIZATION_LENGTH
 unfolding packed_of
-returns-then-buf-lt-SYNCHRONIZATION_LENGTH c = record { answer = stop 0 _ _ _ (omega arith) c.refuse.ensures; bytes = cc }
+returns-then-buf-lt-SYNCHRONIZATION_LENGTH c = record { answer = stop 0 _ _ _ (omega arith) (ap Err c.new.ensures); bytes = cc }
 
 pub returns : goal.returns
 unfolding packed_of

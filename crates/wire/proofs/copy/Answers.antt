@@ -1,5 +1,5 @@
-use Rattle.std.proofs.Common.{sym, arith}
-use Rattle.wire.proofs.Laws.{sets_past, copied_part}
+use Rattle.std.proofs.Common.{take, sym, ◌∙◌, arith}
+use Rattle.wire.proofs.Laws.{sets_past, sets_take, lent_rest}
 use Rattle.wire.proofs.copy.Goals as goal
 
 pub returns-then-buf-at : goal.returns-then-buf-at
@@ -7,4 +7,7 @@ returns-then-buf-at c = sym (sets_past c.args.src.now _ _ (omega arith))
 
 pub returns : goal.returns
 returns c = let a = c.args in
-    copied_part a.src.now a.buf.now a.at _ c.least-n.result c.copy_from_slice.ensures.after (omega arith) (omega arith) c.least-n.ensures
+    let b = a.buf.now in
+    let n = c.least-n.result in
+    lent_rest (take n a.src.now) b a.at c.copy_run.ensures
+    ∙ sets_take a.src.now b a.at n (omega arith)

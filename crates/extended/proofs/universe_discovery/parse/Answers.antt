@@ -1,5 +1,5 @@
 use Rattle.std.specs.Prelude.{ℕ, List, ◌≡◌, Result, Ok, Err}
-use mathlib.Core.Path.{refl, sym, ap, ◌∙◌}
+use mathlib.Core.Path.{refl, sym, ◌∙◌}
 use native.Mathlib.Omega.{arith}
 use Rattle.refusal.specs.declared.Refusal.{Refusal}
 use Rattle.refusal.specs.Check.{reading}
@@ -37,22 +37,22 @@ pub returns-then-length-lt-E131_UNIVERSE_DISCOVERY_FRAMING_LAYER_MIN_LENGTH : go
 unfolding discovery_framing_of
 returns-then-length-lt-E131_UNIVERSE_DISCOVERY_FRAMING_LAYER_MIN_LENGTH c = stop 1 _ _ _ (omega arith) c.refuse-then-length-lt-E131_UNIVERSE_DISCOVERY_FRAMING_LAYER_MIN_LENGTH.ensures
 
-pub returns-in_err-name : goal.returns-in_err-name
-returns-in_err-name c = let p = c.args.p.now in
+pub returns-in-Err : goal.returns-in-Err
+returns-in-Err c = let p = c.args.p.now in
     pass _ _ _ (omega arith)
-    (handed_on (with_name (discovery_part p c.args.length)) (name_found p c.in_err-name.ensures) c.from_residual.ensures.1)
+    (handed_on (with_name (discovery_part p c.args.length)) (name_found p (sym c.in-Err.is ∙ c.parse_source_name_str.ensures)) refl)
     ∙ sym (by_name _ _)
 
-pub returns-in_err-layer : goal.returns-in_err-layer
-returns-in_err-layer c = let p = c.args.p.now in
+pub returns-in-Err-parse : goal.returns-in-Err-parse
+returns-in-Err-parse c = let p = c.args.p.now in
     pass _ _ _ (omega arith)
-    (gone_on (with_name (discovery_part p c.args.length)) (name_found p c.in_ok-name.ensures)
-    (handed_on (with_page c.in_ok-name.name) c.in_err-layer.ensures c.from_residual-in_err-layer.ensures.1))
+    (gone_on (with_name (discovery_part p c.args.length)) (name_found p (sym c.in-Ok.is ∙ c.parse_source_name_str.ensures))
+    (handed_on (with_page c.in-Ok.len) (sym c.in-Err-parse.is ∙ c.parse.ensures) refl))
     ∙ sym (by_name _ _)
 
-pub returns : goal.returns
-returns c = let p = c.args.p.now in
+pub returns-in-Ok-parse : goal.returns-in-Ok-parse
+returns-in-Ok-parse c = let p = c.args.p.now in
     pass _ _ _ (omega arith)
-    (gone_on (with_name (discovery_part p c.args.length)) (name_found p c.in_ok-name.ensures)
-    (gone_on (with_page c.in_ok-name.name) c.in_ok-layer.ensures refl))
+    (gone_on (with_name (discovery_part p c.args.length)) (name_found p (sym c.in-Ok.is ∙ c.parse_source_name_str.ensures))
+    (gone_on (with_page c.in-Ok.len) (sym c.in-Ok-parse.is ∙ c.parse.ensures) refl))
     ∙ sym (by_name _ _)
