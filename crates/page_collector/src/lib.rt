@@ -77,7 +77,8 @@ impl Collector {
                 let universes = parts::shown(datagram, x.universes);
                 self.take_in(reading.cid, x.fields, universes, memory, list)
             }
-            Packet::Data(_) | Packet::Synchronization(_) => {
+            Packet::Data(_) => refusal::refuse(refusal::NO_UNIVERSES_COPIED, refusal::NOWHERE, 0),
+            Packet::Synchronization(_) => {
                 refusal::refuse(refusal::NO_UNIVERSES_COPIED, refusal::NOWHERE, 0)
             }
             Packet::Refused(r) => Err(r),

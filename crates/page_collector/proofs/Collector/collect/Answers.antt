@@ -1,4 +1,4 @@
-use Rattle.std.proofs.Common.{⊎_elim, ◌≡◌, List, ℕ, length, refl, sym, ap, ◌∙◌, arith}
+use Rattle.std.proofs.Common.{◌≡◌, List, ℕ, length, refl, sym, ap, ◌∙◌, arith}
 use Rattle.packet.specs.Packet.{reading_of, packet_of}
 use Rattle.packet.specs.declared.DiscoveryRecord.{DiscoveryRecord}
 use Rattle.packet.specs.declared.Packet.{Packet}
@@ -39,12 +39,14 @@ returns-in-Discovery c =
     (rw c.shown-universes.ensures at c.take_in.ensures)
 
 pub returns-in-Data : goal.returns-in-Data
-returns-in-Data c =
-    let a = c.args in
-    let moved = after a.memory.now a.list.now (collected_of a.self.now c.refuse.result) in
-    let other = ap (λ (x : Answer). after a.memory.now a.list.now (collected_of a.self.now x)) c.refuse.ensures in
-    ⊎_elim (λ k. told a.self.now a.datagram.now a.memory.now a.list.now _ _ moved c.parse-reading.ensures k.1 other)
-    (λ k. told a.self.now a.datagram.now a.memory.now a.list.now _ _ moved c.parse-reading.ensures k.1 other) c.in-Data.is
+returns-in-Data c = let a = c.args in
+    told a.self.now a.datagram.now a.memory.now a.list.now _ _ _ c.parse-reading.ensures c.in-Data.is
+    (ap (λ (x : Answer). after a.memory.now a.list.now (collected_of a.self.now x)) c.refuse.ensures)
+
+pub returns-in-Synchronization : goal.returns-in-Synchronization
+returns-in-Synchronization c = let a = c.args in
+    told a.self.now a.datagram.now a.memory.now a.list.now _ _ _ c.parse-reading.ensures c.in-Synchronization.is
+    (ap (λ (x : Answer). after a.memory.now a.list.now (collected_of a.self.now x)) c.refuse-in-Synchronization.ensures)
 
 pub returns-in-Refused : goal.returns-in-Refused
 returns-in-Refused c =
