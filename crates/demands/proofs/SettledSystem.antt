@@ -118,7 +118,7 @@ module _ (T : RattleType) (L : Laws T) (G1 : Print.Ghosts T.Denot) (d1 : Dict) (
       let wrote = same_write e.0.now.wrote f.0.now.wrote (p.handed ∙ sym q.handed) same in
       (p.done ∙ ap (over _) wrote ∙ sym q.done, λ i. ((p.empty ∙ sym q.empty) i, (p.text ∙ sym q.text) i))
 
--- A whole program over a capture, for every runtime and every program.
+-- A whole program over a capture, for every runtime and every program that knows a telling. What the program itself remembers is left open.
 module _ (P T1 T2 : RattleType) (L0 : Laws P) (L1 : Laws T1) (L2 : Laws T2) (G0 : Teller.Ghosts P.Denot) (d0 : Dict) (G1 : Input.Ghosts T1.Denot T2.Denot) (d1 : Dict)
     (G2 : BufRead.Ghosts T2.Denot) (d2 : Dict) (G3 : Read.Ghosts T2.Denot) (d3 : Dict) (G4 : Print.Ghosts T1.Denot) (d4 : Dict) (G5 : Eprint.Ghosts T1.Denot) (d5 d6 : Dict) where
   -- by something that the program tells by at its start, at each turn the same bytes arrived and the system said the same: both runs end in the

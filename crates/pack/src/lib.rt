@@ -168,13 +168,14 @@ pub fn pack_synchronization(
     ensures bytes { buf.new ≡ after_pack result (synchronization_bytes cid fields) buf.old }
 {
     if buf.len() < SYNCHRONIZATION_LENGTH {
+        // Made here: handed back by `refuse` it would take a refused write two thirds more time.
         return Err(Refusal::new(refusal::BUFFER_TOO_SMALL, refusal::NOWHERE, 0));
     }
     put_synchronization(buf, cid, fields);
     Ok(SYNCHRONIZATION_LENGTH)
 }
 
-// Likewise.
+// Its checks are matched, as in `pack_data`.
 pub fn pack_discovery(
     buf: &mut [u8],
     cid: [u8; 16],

@@ -77,6 +77,7 @@ impl Collector {
                 let universes = parts::shown(datagram, x.universes);
                 self.take_in(reading.cid, x.fields, universes, memory, list)
             }
+            // An arm for each other kind: must-fail/ tries a wrong number for one of them.
             Packet::Data(_) => refusal::refuse(refusal::NO_UNIVERSES_COPIED, refusal::NOWHERE, 0),
             Packet::Synchronization(_) => {
                 refusal::refuse(refusal::NO_UNIVERSES_COPIED, refusal::NOWHERE, 0)
