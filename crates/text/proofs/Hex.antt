@@ -1,12 +1,11 @@
 -- Bytes in hex, one after the other. Assumes nothing.
 use Rattle.std.proofs.Common.{◌≡◌, ℕ, suc, ◌+◌, ◌*◌, ◌≤◌, ◌<◌, min, List, [], ◌∷◌, ◌++◌, length, take, get_or, refl, sym, ap, ◌∙◌, arith, add-one, take-suc, length-take-le}
-use Rattle.text.specs.Digits.{hex_byte, hex_bytes, hex}
 use Rattle.std.proofs.Math.Seq.{length-sets}
-use Rattle.wire.proofs.Laws.{sets_append}
 use Rattle.std.proofs.lemmas.List.Edits.{sets}
 use Rattle.refusal.specs.Check.{◌≤?◌}
 use Rattle.refusal.proofs.Tests.{decide}
-use Rattle.wire.proofs.Laws.{sets_past}
+use Rattle.wire.proofs.Laws.{sets_append, sets_past}
+use Rattle.text.specs.Digits.{hex_byte, hex_bytes, hex}
 
 hex_bytes_append : (xs ys : List ℕ) → hex_bytes (xs ++ ys) ≡ hex_bytes xs ++ hex_bytes ys
 unfolding hex_bytes
@@ -38,12 +37,13 @@ unfolding hex_bytes
 hex_bytes_length [] = refl
 hex_bytes_length (b ∷ s) = omega (arith, hex_bytes_length s)
 
--- the first i bytes are put, and the next one behind them; a place that the buffer does not have may be told as its last number
+-- a place that no buffer has may be told as the last number there is
 sets_clamped : (vs l : List ℕ) (i j most : ℕ) → j ≡ min i most → length l ≤ most → sets l j vs ≡ sets l i vs
 sets_clamped vs l i j most e h = decide (i ≤? most)
     (λ k. ap (λ (at : ℕ). sets l at vs) (omega (arith, e, k)))
     (λ k. sets_past vs l j (omega (arith, e, h, k)) ∙ sym (sets_past vs l i (omega (arith, h, k))))
 
+-- the first i bytes are put, and the next one behind them
 pub put_more : (s l : List ℕ) (at i place most : ℕ) → i < length s → place ≡ min (at + 2 * i) most → length l ≤ most →
     sets (sets l at (hex_bytes (take i s))) place (hex_byte (get_or s i 0)) ≡ sets l at (hex_bytes (take (i + 1) s))
 put_more s l at i place most h e room =
